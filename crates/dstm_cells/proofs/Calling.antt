@@ -4,8 +4,8 @@ use Rattle.std.specs.Prelude.{Result, IfErr, IsErrAnd, Ok, Err}
 use denote.Ref.{MutBor}
 use Rattle.std.specs.Fn.{Called, CalledAtMut, FnOnceReturnsAtMut, Mut, Once}
 use Rattle.dstm_model.specs.declared.value.Val.{Val}
-use Rattle.dstm_engine.specs.Callers.{Called as Caller}
-use Rattle.dstm_engine.specs.Transactions.{BeginsAnew}
+use Rattle.dstm_tables.specs.declared.tables.Caller.{Caller}
+use Rattle.dstm_attempts.specs.Attempts.{Begins}
 use Rattle.dstm_cells.specs.declared.error.Stop.{Stop}
 use Rattle.dstm_cells.specs.Closures.{CalledAnew, KeepsEach, KeepsOnce}
 use Rattle.dstm_cells.specs.UnderWay.{AddsNothing, Keeps}
@@ -39,7 +39,7 @@ module _ {X F R : Type 0} where
   abbrev pub called_anew : {L : Type 0} (caller : X → Caller L)
       (g : Mut F (MutBor X × Unit {0}) (Result R Stop × (MutBor X × Unit {0}))) (holds : L → List Val → Type 0)
       (k : Caller L) (before : Caller L) (f n : F) (p q : MutBor X) (found answer : Result R Stop) →
-      AddsNothing k before → BeginsAnew holds before (caller p.now) → KeepsEach caller g →
+      AddsNothing k before → Begins holds before (caller p.now) → KeepsEach caller g →
       Called g f (p, tt) (found, (q, tt)) n → found ≡ answer → CalledAnew caller g holds k answer
   called_anew caller g holds k before f n p q found answer same begins keeps called is = record {
     before = before;

@@ -2,10 +2,17 @@
 use Rattle.std.proofs.Common.{◌≡◌, ◌∙◌, ℕ, List, ap, slice_set, sym}
 use Rattle.dstm_model.specs.declared.value.Val.{Val}
 use Rattle.dstm_model.specs.Map.{value_at}
-use Rattle.dstm_engine.specs.Callers.{Called}
+use Rattle.dstm_tables.specs.Callers.{law_of}
+use Rattle.dstm_tables.specs.declared.tables.Caller.{Caller}
+use Rattle.dstm_attempts.proofs.UnderWay.{may_lawful}
 use Rattle.dstm_cells.specs.UnderWay.{Changes, Gets, MayBegin, seen}
 
-module _ {L T : Type 0} (holds : L → List Val → Type 0) (found : Val → T) (old new : Called L) (cell : ℕ)
+-- values at which an attempt may have begun are lawful
+pub lawful_at : {L : Type 0} (holds : L → List Val → Type 0) (k : Caller L) (map : List Val) → MayBegin holds k map →
+    holds (law_of k) map
+lawful_at holds k map may = may_lawful holds k map may
+
+module _ {L T : Type 0} (holds : L → List Val → Type 0) (found : Val → T) (old new : Caller L) (cell : ℕ)
     (map before : List Val) where
   -- a cell was found to hold what it held before
   pub found_at : (value : T) → Gets holds found old new cell value → MayBegin holds new map → seen old map ≡ before →

@@ -1,10 +1,10 @@
 mod Alternating
-mod Attempting
 mod Calling
 pub mod Closures
 pub mod Found
 mod Running
 pub mod Sends
 mod Spending
+mod Stopping
 mod Undoing
-mod UnderWay
+mod Waiting

@@ -2,25 +2,31 @@
 use denote.Ref.{NamedLft}
 use denote.RattleType.{RattleType}
 use denote.Param.Send.{IsSend, IsSync, sendable}
-use denote.Param.SendFields.{declared_send}
+use denote.Param.SendFields.{declared_send, variants_sync}
 use Rattle.std.proofs.Crossing.{crosses}
 use Rattle.dstm_model.specs.declared.value.Law.{Ghosts}
 use Rattle.dstm_engine.proofs.stm.Stm.TheSendSync as TheStm
-use Rattle.dstm_engine.specs.contracts.stm.Stm as Stm
-use Rattle.dstm_engine.proofs.Sends.{caller_send}
+use Rattle.dstm_tl2_engine.proofs.stm.TlStm.TheSendSync as TheTlStm
+use Rattle.dstm_tables.proofs.Sends.{caller_send}
+use Rattle.dstm_tables.specs.contracts.tables.Table as Table
+use Rattle.dstm_attempts.specs.contracts.attempts.Attempts as Attempts
 use Rattle.dstm_cells.specs.contracts.memory.Seat as Seat
 use Rattle.dstm_cells.specs.contracts.thread.Part as Part
 use Rattle.dstm_cells.specs.contracts.under_way.Tx as Tx
 
-stm_sync : (Y : RattleType) (law : Ghosts Y.Denot) → IsSync Y → IsSync (Stm.the_row Y law)
-stm_sync Y law sync = TheStm.the_sync Y law sync
+table_sync : (Y : RattleType) (law : Ghosts Y.Denot) → IsSync Y → IsSync (Table.the_row Y law)
+table_sync Y law sync =
+    variants_sync (Table.enum Y law) ((TheStm.the_sync Y law sync, tt), ((TheTlStm.the_sync Y law sync, tt), tt))
+
+attempts_send : (Y : RattleType) (law : Ghosts Y.Denot) → IsSend (Attempts.the_row Y law)
+attempts_send Y law = declared_send (Attempts.the_type Y law) (caller_send Y law, (search sendable depth 20, tt))
 
 tx_send : (κ : NamedLft) (Y : RattleType) (law : Ghosts Y.Denot) → IsSync Y → IsSend (Tx.the_row κ Y law)
 tx_send κ Y law sync =
     declared_send (Tx.the_type κ Y law) (
-      caller_send Y law,
+      attempts_send Y law,
       (
-        search (stm_sync Y law sync, crosses, sendable) depth 20,
+        search (table_sync Y law sync, crosses, sendable) depth 20,
         (
           search (crosses, sendable) depth 20,
           (search sendable depth 20, (search sendable depth 20, tt)),

@@ -2,13 +2,14 @@
 use Rattle.std.specs.Prelude.{◌≡◌, ◌≢◌, ◌⊎◌, ℕ, Bool, true, false, List, [], ◌∷◌, ◌++◌, Result, Err, slice_set}
 use denote.Ref.{MutBor}
 use Rattle.std.specs.Fn.{FnOnceReturnsAtMut, Once}
+use Rattle.dstm_model.specs.declared.value.Law.{Ghosts}
 use Rattle.dstm_model.specs.declared.value.Val.{Val}
-use Rattle.dstm_engine.specs.Callers.{Called}
+use Rattle.dstm_tables.specs.declared.tables.Caller.{Caller}
 use Rattle.dstm_cells.specs.declared.error.Stop.{Stop}
-use Rattle.dstm_cells.specs.declared.error.Stop.TheVariants.{Retry}
+use Rattle.dstm_cells.specs.declared.error.Cause.TheVariants.{Retry}
 use Rattle.dstm_cells.specs.declared.under_way.Tx.{Tx}
 use Rattle.dstm_cells.specs.declared.under_way.Undo.{Undo}
-use Rattle.dstm_cells.specs.UnderWay.{Keeps, MayBegin, StopsChange, seen}
+use Rattle.dstm_cells.specs.UnderWay.{Keeps, MayBegin, StopsChange, seen, stop_by}
 
 -- these values, with each of these objects set back, the last one first
 abbrev pub set_back : List Undo → List Val → List Val
@@ -17,14 +18,14 @@ set_back (undo ∷ later) map = slice_set (set_back later map) undo.object undo.
 
 -- an attempt, whether it notes what it sets, and what it has noted; and how often it looks where it retries
 pub record Noting (L : Type 0) : Type 0 where
-  pub caller : Called L
+  pub caller : Caller L
   pub notes : Bool
   pub undos : List Undo
   pub looks : ℕ
 
 module _ {L : Type 0} where
-  abbrev pub noting : Tx L → Noting L
-  noting tx = record { caller = tx.caller; notes = tx.notes; undos = tx.undos.items; looks = tx.looks }
+  abbrev pub noting : {ghosts : Ghosts L} → Tx L ghosts → Noting L
+  noting tx = record { caller = tx.attempts.caller; notes = tx.notes; undos = tx.undos.items; looks = tx.looks }
 
   -- whether it notes what it sets, and how often it looks
   abbrev pub settings : Noting L → Bool × ℕ
@@ -65,11 +66,11 @@ module _ {L : Type 0} where
       pub same : (map : List Val) → MayBegin holds new.caller map → seen new.caller map ≡ seen old.caller map
 
     -- why undoing stops: a call that sets an object back does
-    pub record StopsUndoing (old new : Called L) (stop : Stop) : Type 0 where
+    pub record StopsUndoing (old new : Caller L) (stop : Stop) : Type 0 where
       pub object : ℕ
-      pub last : Called L
+      pub last : Caller L
       pub keeps : Keeps old last
-      pub stops : StopsChange holds false object last new stop
+      pub stops : StopsChange holds false object last new stop.cause
 
 module _ {X L F R : Type 0} (noting : X → Noting L)
     (g : Once F (MutBor X × Unit {0}) (Result R Stop × (MutBor X × Unit {0}))) (f : F) where
@@ -94,13 +95,13 @@ module _ {X L F G R : Type 0} (noting : X → Noting L) (holds : L → List Val 
   pub record GoesByFirst : Type 0 where
     pub left : Noting L
     pub called : CalledOn noting g first (in_alternative k) answer left
-    pub goes_on : answer ≢ Err Retry
+    pub goes_on : answer ≢ Err (stop_by Retry)
     pub leaves : n ≡ record left { notes = k.notes }
 
   -- the first alternative retried, what it had set was undone, and the second one was called
   pub record GoesBySecond : Type 0 where
     pub left : Noting L
-    pub retries : CalledOn noting g first (in_alternative k) (Err Retry) left
+    pub retries : CalledOn noting g first (in_alternative k) (Err (stop_by Retry)) left
     pub between : Noting L
     pub undone : IsUndone holds k between
     pub called : CalledOn noting h second between answer n
@@ -108,7 +109,7 @@ module _ {X L F G R : Type 0} (noting : X → Noting L) (holds : L → List Val 
   -- the first alternative retried, and what it had set could not be undone
   pub record StopsBetween : Type 0 where
     pub left : Noting L
-    pub retries : CalledOn noting g first (in_alternative k) (Err Retry) left
+    pub retries : CalledOn noting g first (in_alternative k) (Err (stop_by Retry)) left
     pub stop : Stop
     pub is : answer ≡ Err stop
     pub stops : StopsUndoing holds left.caller n.caller stop

@@ -1,49 +1,77 @@
 -- How the attempts of a transaction follow one another, and why there is no further one.
-use Rattle.std.specs.Prelude.{◌≡◌, ◌⊎◌, ℕ, ◌+◌, true, List, Result, Ok, Err}
+use Rattle.std.specs.Prelude.{◌≡◌, ◌⊎◌, ℕ, ◌+◌, ◌≤◌, List, Result, Ok, Err}
 use Rattle.dstm_model.specs.declared.value.Val.{Val}
-use Rattle.dstm_order.specs.Order.{is_spent}
-use Rattle.dstm_order.specs.Tasks.Work.{Committing, Rechecking}
 use Rattle.dstm_engine.specs.Attempts.{sights}
-use Rattle.dstm_engine.specs.Callers.{Called, new_value, shape_of, state}
+use Rattle.dstm_tables.specs.declared.tables.Caller.{Caller}
+use Rattle.dstm_tables.specs.declared.tables.Caller.TheVariants.{Dstm, Tl2}
+use Rattle.dstm_attempts.specs.Attempts.{AddsNothing, IsSpent, Keeps, LooksChanged, LooksSpent, begun, clock}
 use Rattle.dstm_cells.specs.declared.error.GaveUp.{GaveUp}
-use Rattle.dstm_cells.specs.declared.error.GaveUp.TheVariants.{Idle}
+use Rattle.dstm_cells.specs.declared.error.GaveUp.TheVariants.{Idle, Spent}
 use Rattle.dstm_cells.specs.declared.error.GaveUp.TheVariants as gave_up
-use Rattle.dstm_cells.specs.declared.error.Stop.{Stop}
-use Rattle.dstm_cells.specs.declared.error.Stop.TheVariants.{Again, Retry, Foreign, Memory}
-use Rattle.dstm_cells.specs.UnderWay.{AddsNothing, IsOver, Keeps}
+use Rattle.dstm_cells.specs.declared.error.Cause.{Cause}
+use Rattle.dstm_cells.specs.declared.error.Cause.TheVariants.{Again, Retry, Foreign, Memory}
 
 module _ {L : Type 0} where
-  -- the caller has no attempt left, or no locator
-  abbrev pub IsSpent : Called L → Type 0
-  IsSpent k = is_spent (shape_of k) (state k) ≡ true
-
   -- WHY A CALLER COULD NOT READ ALL OBJECTS TOGETHER: it has no attempt left, or no locator; or it has begun so many attempts
   -- more, and none of them has committed
-  pub record CouldNotRead (attempts : ℕ) (old new : Called L) : Type 0 where
+  pub record CouldNotRead (attempts : ℕ) (old new : Caller L) : Type 0 where
     pub nothing : AddsNothing old new
-    pub why : IsSpent new ⊎ ((state new).begun ≡ (state old).begun + attempts)
+    pub why : IsSpent new ⊎ (begun new ≡ begun old + attempts)
 
-  -- all that the attempt had read was seen to be current so many times
-  pub record WaitedInVain (most : ℕ) (old : Called L) : Type 0 where
-    pub new : Called L
-    pub keeps : Keeps old new
-    pub looks : sights new ≡ sights old + most
+  -- how often a caller has looked: of its last attempt under DSTM how often all that it had read was seen to be current,
+  -- under TL2 how many attempts it has begun, since each look is one
+  abbrev pub looked : Caller L → ℕ
+  looked (Dstm k) = sights k
+  looked (Tl2 k) = begun (Tl2 k)
+
+  -- what looking leaves: under DSTM the same attempt; under TL2 attempts were begun, and nothing more was committed
+  abbrev pub StaysLooking : Caller L → Caller L → Type 0
+  StaysLooking (Dstm old) (Dstm new) = Keeps (Dstm old) (Dstm new)
+  StaysLooking (Tl2 old) (Tl2 new) = AddsNothing (Tl2 old) (Tl2 new) × (begun (Tl2 old) ≤ begun (Tl2 new))
+  StaysLooking old new = ⊥
+
+  -- what a stop leaves: the same attempt, but for a retry
+  abbrev pub StaysFor : Cause → Caller L → Caller L → Type 0
+  StaysFor Again old new = Keeps old new
+  StaysFor Retry old new = StaysLooking old new
+  StaysFor Foreign old new = Keeps old new
+  StaysFor Memory old new = Keeps old new
+
+  -- nothing had changed at any of so many looks: under DSTM all that the attempt had read was current; under TL2 no
+  -- transaction had drawn a number since the attempt began
+  pub record WaitedInVain (most : ℕ) (old : Caller L) : Type 0 where
+    pub new : Caller L
+    pub stays : StaysLooking old new
+    pub looks : looked new ≡ looked old + most
+    pub still : clock new ≡ clock old
 
   module _ (holds : L → List Val → Type 0) where
-    -- a commit that did not take effect
-    abbrev pub IsLost : Called L → Called L → Type 0
-    IsLost old new = IsOver holds (Committing (new_value old)) old new
+    -- a look found a change: under DSTM that something which the attempt had read has changed, or that it is over; under TL2
+    -- that a transaction has drawn a number since the attempt began
+    pub record WasWoken (old : Caller L) : Type 0 where
+      pub last : Caller L
+      pub stays : StaysLooking old last
+      pub new : Caller L
+      pub changed : LooksChanged holds (clock old) last new
 
-    -- something that the attempt had read was seen to have changed, or the attempt to be over
-    pub record WasWoken (old : Called L) : Type 0 where
-      pub last : Called L
-      pub keeps : Keeps old last
-      pub new : Called L
-      pub over : IsOver holds Rechecking last new
+    -- no attempt was left to look, which only TL2 needs
+    pub record IsSpentWaiting (old : Caller L) : Type 0 where
+      pub last : Caller L
+      pub stays : StaysLooking old last
+      pub new : Caller L
+      pub spent : LooksSpent last new
 
-    -- WHAT FOLLOWS WHERE A CLOSURE STOPS ITS ATTEMPT: a further attempt, or none, and why; after a retry it was waited.
-    abbrev pub Follows : (looks : ℕ) → Called L → Stop → Result (Unit {0}) GaveUp → Type 0
+    -- WHAT FOLLOWS A RETRY: it was waited
+    abbrev pub FollowsRetry : (looks : ℕ) → Caller L → Result (Unit {0}) GaveUp → Type 0
+    FollowsRetry looks k (Ok x) = WasWoken k
+    FollowsRetry looks k (Err Spent) = IsSpentWaiting k
+    FollowsRetry looks k (Err Idle) = WaitedInVain looks k
+    FollowsRetry looks k (Err gave_up.Foreign) = ⊥
+    FollowsRetry looks k (Err gave_up.Memory) = ⊥
+
+    -- WHAT FOLLOWS WHERE A CLOSURE STOPS ITS ATTEMPT: a further attempt, or none, and why
+    abbrev pub Follows : (looks : ℕ) → Caller L → Cause → Result (Unit {0}) GaveUp → Type 0
     Follows looks k Again next = next ≡ Ok tt
-    Follows looks k Retry next = ((next ≡ Ok tt) × WasWoken k) ⊎ ((next ≡ Err Idle) × WaitedInVain looks k)
+    Follows looks k Retry next = FollowsRetry looks k next
     Follows looks k Foreign next = next ≡ Err gave_up.Foreign
     Follows looks k Memory next = next ≡ Err gave_up.Memory

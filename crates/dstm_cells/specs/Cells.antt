@@ -1,10 +1,17 @@
 -- The cells of a memory between runs, and the table of a run.
-use Rattle.std.specs.Prelude.{◌≡◌, ℕ, List, [], ◌∷◌, ◌++◌, length}
+use Rattle.std.specs.Prelude.{◌≡◌, ℕ, ◌+◌, false, List, [], ◌∷◌, ◌++◌, length}
+use Rattle.dstm_core.specs.declared.shape.Manager.{Manager}
+use Rattle.dstm_core.specs.declared.shape.Shape.{Shape}
 use Rattle.dstm_model.specs.declared.value.Val.{Val}
-use Rattle.dstm_words.specs.Seats.{Home}
-use Rattle.dstm_engine.specs.Attempts.{Settles}
-use Rattle.dstm_engine.specs.Callers.{Called}
-use Rattle.dstm_engine.specs.Tables.{Enrols, Founding, founded}
+use Rattle.dstm_tables.specs.Founders.{Enrols, founded}
+use Rattle.dstm_tables.specs.Tables.{law_there, objects_there, start_there}
+use Rattle.dstm_tables.specs.declared.founding.Founder.{Founder}
+use Rattle.dstm_tables.specs.declared.tables.Caller.{Caller}
+use Rattle.dstm_tables.specs.declared.tables.Table.{Table}
+use Rattle.dstm_tables.specs.declared.tables.Table.TheVariants.{Dstm, Tl2}
+use Rattle.dstm_attempts.specs.Attempts.{Settles}
+use Rattle.dstm_cells.specs.declared.memory.Engine.{Engine}
+use Rattle.dstm_cells.specs.declared.memory.Engine.TheVariants as engine
 use Rattle.dstm_cells.specs.Attempts.{CouldNotRead}
 
 -- a cell was added to the values of those before, and holds this, by what two words stand for
@@ -14,21 +21,36 @@ pub record Adds {T : Type 0} (found : Val → T) (old new : List Val) (cell : �
   pub last : new ≡ old ++ (kept ∷ [])
   pub number : cell ≡ length old
 
+-- the shape of a run under a manager: with as many attempts as there can be, and two locators for each beside one for each
+-- object
+pub record IsShape (manager : Manager) (shape : Shape) : Type 0 where
+  pub manager_is : shape.manager ≡ manager
+  pub attempts : shape.attempts ≡ 65536
+  pub locators : shape.locators ≡ shape.objects + 131072
+  pub all_write : shape.all_write ≡ false
+
+module _ {L : Type 0} where
+  -- a table works by this engine: under DSTM with this shape, under TL2 with 2^54 attempts of each caller
+  abbrev pub WorksBy : Engine → Table L → Type 0
+  WorksBy (engine.Dstm manager) (Dstm home) = IsShape manager home.terms.shape
+  WorksBy engine.Tl2 (Tl2 home) = home.terms.attempts ≡ 18014398509481984
+  WorksBy engine table = ⊥
+
 module _ {L : Type 0} (rule : L) (values : List Val) where
   -- a table has an object for each of these values, under this law
-  pub record IsFor (home : Home L) : Type 0 where
-    pub law : home.terms.law.value ≡ rule
-    pub objects : home.terms.shape.objects ≡ length values
+  pub record IsFor (table : Table L) : Type 0 where
+    pub law : law_there table ≡ rule
+    pub objects : objects_there table ≡ length values
 
   -- and it was made of them
-  pub record Starts (home : Home L) : Type 0 where
-    pub table : IsFor home
-    pub start : home.terms.start.value.items ≡ values
+  pub record Starts (table : Table L) : Type 0 where
+    pub made_for : IsFor table
+    pub start : start_there table ≡ values
 
   -- and nobody has a part in it yet
-  pub record Founds (home : Home L) (f : Founding L) : Type 0 where
-    pub starts : Starts home
-    pub founder : f ≡ founded home
+  pub record Founds (table : Table L) (f : Founder L) : Type 0 where
+    pub starts : Starts table
+    pub founder : f ≡ founded table
 
 -- these are the values before and after a transaction, which sets none
 abbrev pub AreValues : List Val → List Val → List Val → Type 0
@@ -37,20 +59,20 @@ AreValues values before after = (before ≡ values) × (after ≡ values)
 module _ {L : Type 0} (holds : L → List Val → Type 0) where
   -- THE VALUES OF ALL OBJECTS WERE READ: the caller has committed one transaction more, and in every run these are their
   -- values at its place in the order of all transactions, before it and after it
-  pub record ReadsAll (k : Called L) (values : List Val) : Type 0 where
-    pub after : Called L
+  pub record ReadsAll (k : Caller L) (values : List Val) : Type 0 where
+    pub after : Caller L
     pub number : ℕ
     pub settles : Settles holds (AreValues values) k after number
 
   -- they were read by a new caller of a table
-  pub record Takes (f g : Founding L) (values : List Val) : Type 0 where
-    pub caller : Called L
+  pub record Takes (f g : Founder L) (values : List Val) : Type 0 where
+    pub caller : Caller L
     pub enrols : Enrols holds f g 0 caller
     pub reads : ReadsAll caller values
 
   -- they could not be read by a new caller of a table, in 64 attempts
-  pub record LeavesUnread (f g : Founding L) : Type 0 where
-    pub caller : Called L
+  pub record LeavesUnread (f g : Founder L) : Type 0 where
+    pub caller : Caller L
     pub enrols : Enrols holds f g 0 caller
-    pub after : Called L
+    pub after : Caller L
     pub unread : CouldNotRead 64 caller after

@@ -2,10 +2,13 @@
 use Rattle.std.specs.Prelude.{◌≡◌, ◌⊎◌, ℕ, ◌<◌, List, Result, Ok, Err, length, slice_index_or}
 use denote.Ref.{MutBor}
 use Rattle.std.specs.Fn.{Shared}
+use Rattle.dstm_model.specs.declared.value.Law.{Ghosts}
 use Rattle.dstm_model.specs.declared.value.Val.{Val}
-use Rattle.dstm_words.specs.Seats.{Home}
-use Rattle.dstm_engine.specs.Companies.{IsNew}
-use Rattle.dstm_engine.specs.Tables.{Founding, founded}
+use Rattle.dstm_tables.specs.Callers.{home_of}
+use Rattle.dstm_tables.specs.Founders.{Enrols, founded}
+use Rattle.dstm_tables.specs.declared.founding.Founder.{Founder}
+use Rattle.dstm_tables.specs.declared.tables.Caller.{Caller}
+use Rattle.dstm_tables.specs.declared.tables.Table.{Table}
 use Rattle.dstm_cells.specs.declared.error.Failed.{Failed}
 use Rattle.dstm_cells.specs.declared.error.Failed.TheVariants as failed
 use Rattle.dstm_cells.specs.declared.error.GaveUp.{GaveUp}
@@ -45,28 +48,33 @@ LeavesBy ran same (Err failed.Unread) = same
 
 module _ {L : Type 0} where
   -- the seat of this number tells that its thread has ended so
-  abbrev pub SeatEnded : List (Seat L) → ℕ → End → Type 0
-  SeatEnded seats number end = (other : Seat L) → (slice_index_or seats number other).ended ≡ end
+  abbrev pub SeatEnded : {ghosts : Ghosts L} → List (Seat L ghosts) → ℕ → End → Type 0
+  SeatEnded {ghosts} seats number end = (other : Seat L ghosts) → (slice_index_or seats number other).ended ≡ end
 
   -- that is how the first one ended that did not end well, by what the seats tell
-  pub record IsFirst (seats : List (Seat L)) (failure : Failed) : Type 0 where
+  pub record IsFirst {ghosts : Ghosts L} (seats : List (Seat L ghosts)) (failure : Failed) : Type 0 where
     pub why : GaveUp
     pub is : failure ≡ failed.GaveUp why
     pub first : FirstEnded (SeatEnded seats) (length seats) why
 
   module _ (holds : L → List Val → Type 0) where
+    -- a new caller of the table, with this seed
+    pub record IsNew (table : Table L) (seed : ℕ) (k : Caller L) : Type 0 where
+      pub home : home_of k ≡ table
+      pub enrols : (f g : Founder L) × Enrols holds f g seed k
+
     -- each seat has a new part of the table, with its number as the seed
-    abbrev pub HaveNew : Home L → List (Seat L) → Type 0
-    HaveNew table seats =
-        (number : ℕ) (other : Seat L) → number < length seats →
-        IsNew holds table number (slice_index_or seats number other).me.tx.caller
+    abbrev pub HaveNew : {ghosts : Ghosts L} → Table L → List (Seat L ghosts) → Type 0
+    HaveNew {ghosts} table seats =
+        (number : ℕ) (other : Seat L ghosts) → number < length seats →
+        IsNew table number (slice_index_or seats number other).me.tx.attempts.caller
 
     -- of a table that was made of these values this holds: of its founder, with nobody on it yet, and of what became of it
-    pub record OnItsTable (rule : L) (before : List Val) (ended : Founding L → Founding L → Type 0) : Type 0 where
-      pub home : Home L
-      pub starts : Starts rule before home
-      pub left : Founding L
-      pub ends : ended (founded home) left
+    pub record OnItsTable (rule : L) (before : List Val) (ended : Founder L → Founder L → Type 0) : Type 0 where
+      pub table : Table L
+      pub starts : Starts rule before table
+      pub left : Founder L
+      pub ends : ended (founded table) left
 
     -- WHAT A RUN HAS LEFT: these values, that the objects of its table had together at the place of a last transaction;
     -- the table was made of the values before
@@ -86,14 +94,14 @@ module _ {S F R : Type 0} (g : Shared F (MutBor S × (ℕ × Unit {0})) (R × (M
     pub met : g.post f (shown, (number, tt)) (answer, (left, tt))
     pub leaves : left.now ≡ ended
 
-module _ {L F : Type 0} (holds : L → List Val → Type 0)
-    (g : Shared F (MutBor (Part (Tx L)) × (ℕ × Unit {0})) (End × (MutBor (Part (Tx L)) × Unit {0}))) (f : F)
+module _ {L F : Type 0} {ghosts : Ghosts L} (holds : L → List Val → Type 0)
+    (g : Shared F (MutBor (Part (Tx L ghosts)) × (ℕ × Unit {0})) (End × (MutBor (Part (Tx L ghosts)) × Unit {0}))) (f : F)
     (rule : L) (values : List Val) where
   -- THE CLOSURE WAS CALLED with this number and answered this, on a new part of a table that was made of these values
   pub record CalledFor (number : ℕ) (end : End) : Type 0 where
-    pub home : Home L
-    pub starts : Starts rule values home
-    pub began : Part (Tx L)
-    pub new : IsNew holds home number began.tx.caller
-    pub ended : Part (Tx L)
+    pub table : Table L
+    pub starts : Starts rule values table
+    pub began : Part (Tx L ghosts)
+    pub new : IsNew holds table number began.tx.attempts.caller
+    pub ended : Part (Tx L ghosts)
     pub call : IsCalled g f number began end ended

@@ -2,10 +2,10 @@
 ghost use Rattle.std.specs.Prelude.{◌≡◌, ◌≢◌, true, false, Err};
 ghost use Rattle.dstm_cells.specs.Alternatives.{Notes, NotesOnce, OrElse};
 ghost use Rattle.dstm_cells.specs.Closures.{KeepsOnce};
-ghost use Rattle.dstm_cells.specs.UnderWay.{Keeps};
-ghost use Rattle.dstm_cells.specs.declared.error.Stop.TheVariants.{Retry};
+ghost use Rattle.dstm_cells.specs.UnderWay.{Keeps, stop_by};
+ghost use Rattle.dstm_cells.specs.declared.error.Cause.TheVariants.{Retry};
 
-use crate::error::Stop;
+use crate::error::{Cause, Stop};
 use crate::transaction::Transaction;
 
 /// Goes on by the first alternative, or by the second one where the first retries. What the first has set is then undone;
@@ -31,14 +31,23 @@ where
     if !has_retried(&answer) {
         return answer;
     }
+    let_go(answer);
     tx.undo_to(kept)?;
     second(tx)
 }
 
 // Whether an alternative has retried.
 fn has_retried<R>(answer: &Result<R, Stop>) -> bool
-    ensures retries { result ≡ true → answer.now ≡ Err Retry }
-    ensures goes_on { result ≡ false → answer.now ≢ Err Retry }
+    ensures retries { result ≡ true → answer.now ≡ Err (stop_by Retry) }
+    ensures goes_on { result ≡ false → answer.now ≢ Err (stop_by Retry) }
 {
-    matches!(answer, Err(Stop::Retry))
+    matches!(answer, Err(Stop { cause: Cause::Retry }))
+}
+
+// Lets the answer of an alternative go that the other one takes the place of.
+fn let_go<R: Drop>(answer: Result<R, Stop>) {
+    match answer {
+        Ok(_answer) => {}
+        Err(Stop { cause: _ }) => {}
+    }
 }

@@ -1,15 +1,23 @@
 // Why a closure, a transaction and a memory stop.
-use dstm_engine::Again;
+use dstm_attempts::NotOpened;
 use std::alloc::{AllocError, AllocFailed};
 use std::error::Error;
 use std::fmt;
 
-/// Why a closure cannot go on with its transaction. It hands it out, by `?`.
+/// Why a closure cannot go on with its transaction. It can only be handed on, by `?` or as the closure's own answer: it is not
+/// let go, not copied and not looked into. So no closure goes on behind a call that was stopped, and none takes effect.
+#[derive(Debug)]
+pub struct Stop {
+    pub(crate) cause: Cause,
+}
+
+// What has stopped a closure.
 #[derive(Clone, Copy, Debug, PartialEq, Eq)]
-pub enum Stop {
+pub enum Cause {
     /// Another transaction came between. The closure is called again at once.
     Again,
-    /// It cannot go on with what it has read. It is called again once some of this has changed.
+    /// It cannot go on with what it has read. It is called again once some of this has changed; by TL2 once any transaction
+    /// may have taken effect.
     Retry,
     /// The memory has no such cell.
     Foreign,
@@ -20,9 +28,11 @@ pub enum Stop {
 /// Why a transaction did not take effect.
 #[derive(Clone, Copy, Debug, PartialEq, Eq)]
 pub enum GaveUp {
-    /// The thread's attempts, or its locators, are used up: this and every later transaction of the thread in this run.
+    /// The thread's attempts, or its locators, are used up: this and every later transaction of the thread in this run. By
+    /// TL2 no program lives so long.
     Spent,
-    /// The closure answered `Retry`, and nothing that it has read has changed for long.
+    /// The closure answered `Retry`, and for long nothing has changed: by DSTM nothing that it has read; by TL2 no
+    /// transaction took effect.
     Idle,
     /// The memory has no such cell.
     Foreign,
@@ -82,15 +92,19 @@ impl fmt::Display for Failed {
 
 impl Error for Failed {}
 
-// Whatever the cause, the attempt can be made again.
-impl From<Again> for Stop {
+// An attempt that is over can be made again, whatever the cause.
+impl From<NotOpened> for Stop {
     ghost use Rattle.std.specs.Prelude.{◌≡◌};
-    ghost use Rattle.dstm_cells.specs.declared.error.Stop.TheVariants as stop;
+    ghost use Rattle.dstm_cells.specs.UnderWay.{stop_for};
 
-    ghost from_gives = { λ _ e. e ≡ stop.Again };
+    ghost from_gives = { λ why e. e ≡ stop_for why };
 
-    fn from(_e: Again) -> Stop {
-        Stop::Again
+    fn from(why: NotOpened) -> Stop {
+        let cause = match why {
+            NotOpened::Over => Cause::Again,
+            NotOpened::Foreign => Cause::Foreign,
+        };
+        Stop { cause }
     }
 }
 
@@ -118,22 +132,24 @@ impl<T: Drop> From<AllocFailed<T>> for Failed {
 
 impl From<AllocError> for Stop {
     ghost use Rattle.std.specs.Prelude.{◌≡◌};
-    ghost use Rattle.dstm_cells.specs.declared.error.Stop.TheVariants.{Memory};
+    ghost use Rattle.dstm_cells.specs.UnderWay.{stop_by};
+    ghost use Rattle.dstm_cells.specs.declared.error.Cause.TheVariants.{Memory};
 
-    ghost from_gives = { λ _ e. e ≡ Memory };
+    ghost from_gives = { λ _ e. e ≡ stop_by Memory };
 
     fn from(_e: AllocError) -> Stop {
-        Stop::Memory
+        Stop { cause: Cause::Memory }
     }
 }
 
 impl<T: Drop> From<AllocFailed<T>> for Stop {
     ghost use Rattle.std.specs.Prelude.{◌≡◌};
-    ghost use Rattle.dstm_cells.specs.declared.error.Stop.TheVariants.{Memory};
+    ghost use Rattle.dstm_cells.specs.UnderWay.{stop_by};
+    ghost use Rattle.dstm_cells.specs.declared.error.Cause.TheVariants.{Memory};
 
-    ghost from_gives = { λ _ e. e ≡ Memory };
+    ghost from_gives = { λ _ e. e ≡ stop_by Memory };
 
     fn from(_e: AllocFailed<T>) -> Stop {
-        Stop::Memory
+        Stop { cause: Cause::Memory }
     }
 }

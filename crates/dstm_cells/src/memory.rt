@@ -1,13 +1,14 @@
 // Cells, and threads that change them.
 ghost use Rattle.std.specs.Prelude.{◌≡◌, ◌⊎◌, ◌↔◌, ◌+◌, ◌<◌, ◌≤◌, ℕ, [], length, All, Ok, Err, IfErr, IfOk, OnOk};
 ghost use Rattle.dstm_cells.specs.Attempts.{CouldNotRead};
-ghost use Rattle.dstm_cells.specs.Cells.{Adds, Founds, IsFor, LeavesUnread, ReadsAll, Takes};
+ghost use Rattle.dstm_cells.specs.Cells.{Adds, Founds, IsFor, LeavesUnread, ReadsAll, Takes, WorksBy};
 ghost use Rattle.dstm_cells.specs.Runs.{CalledFor, FailsFor, HaveNew, IsCalled, IsFirst, LeavesBy, Ran, WasUnread};
 ghost use Rattle.dstm_cells.specs.declared.error.Failed.TheVariants as failed;
-ghost use Rattle.dstm_core.specs.declared.shape.Manager.TheVariants.{Polka};
-ghost use Rattle.dstm_core.specs.Histories.{history_of};
-ghost use Rattle.dstm_engine.specs.Tables.{Enrols, Retires, founded};
+ghost use Rattle.dstm_cells.specs.declared.memory.Engine.TheVariants.{Dstm, Tl2};
 ghost use Rattle.dstm_model.specs.Map.{state_after, value_at};
+ghost use Rattle.dstm_tables.specs.Callers.{home_of};
+ghost use Rattle.dstm_tables.specs.Founders.{Enrols, Retires, history_by, home_there, made_of, out_of};
+ghost use Rattle.dstm_tables.specs.Tables.{callers_there, start_there};
 
 use crate::cell::{Cell, Word};
 use crate::error::{Failed, GaveUp};
@@ -15,8 +16,9 @@ use crate::thread::{Me, Part};
 use crate::under_way::Tx;
 use crate::work::Work;
 use dstm_core::{Manager, Shape};
-use dstm_engine::{EnrolError, Founder, MOST_OBJECTS, Stm, shape_for};
+use dstm_engine::{EnrolError, MOST_OBJECTS, Zeros, shape_for};
 use dstm_model::{AnyLaw, Law, Val};
+use dstm_tables::{Founder, Table, make_dstm, make_tl2};
 use std::alloc::Global;
 use std::marker::PhantomData;
 use std::thread::{Threads, for_each_mut};
@@ -27,11 +29,24 @@ pub const MOST_CELLS: u32 = MOST_OBJECTS;
 /// The most threads of a run.
 pub const MOST_THREADS: u32 = 63;
 
+// The attempts of each caller of a table by TL2.
+const ATTEMPTS: u64 = 18_014_398_509_481_984;
+
+/// How the runs of a memory work.
+#[derive(Clone, Copy, Debug, PartialEq, Eq)]
+pub enum Engine {
+    /// By TL2: a transaction locks the cells that it changes while it takes effect, and a thread may make any number of them.
+    Tl2,
+    /// By DSTM: nothing is locked, and this manager decides what a transaction does when another one is changing a cell that
+    /// it wants to change.
+    Dstm(Manager),
+}
+
 /// Cells that transactions on threads may change, under a law: one that forbids nothing, where none is named.
 #[derive(Drop)]
 pub struct Memory<L: Law = AnyLaw> {
     alloc: Global,
-    manager: Manager,
+    engine: Engine,
     law: L,
     values: Vec<Val>,
     ghost few: { length values.items ≤ 524288 },
@@ -45,34 +60,34 @@ struct Seat<'a, L: Law> {
 }
 
 impl Memory {
-    /// A memory with no cell, under the manager Polka.
+    /// A memory with no cell, which works by TL2.
     pub fn new(alloc: Global) -> Memory
-        ensures manager { result.manager ≡ Polka }
+        ensures engine { result.engine ≡ Tl2 }
         ensures empty { result.values.items ≡ [] }
     {
-        Memory::with_manager(alloc, Manager::Polka)
+        Memory::with_law(alloc, Engine::Tl2, AnyLaw)
     }
 
-    /// The same under another manager, which decides what a transaction does when another one is changing a cell that
-    /// it wants to change.
+    /// One that works by DSTM under a manager, which decides what a transaction does when another one is changing a cell
+    /// that it wants to change.
     pub fn with_manager(alloc: Global, manager: Manager) -> Memory
-        ensures manager { result.manager ≡ manager }
+        ensures engine { result.engine ≡ Dstm manager }
         ensures empty { result.values.items ≡ [] }
     {
-        Memory::with_law(alloc, manager, AnyLaw)
+        Memory::with_law(alloc, Engine::Dstm(manager), AnyLaw)
     }
 }
 
 impl<L: Law + Copy> Memory<L> {
     /// A memory with no cell, whose runs keep a law over the values of its cells, in the order in which they were made.
-    pub fn with_law(alloc: Global, manager: Manager, law: L) -> Memory<L>
-        ensures manager { result.manager ≡ manager }
+    pub fn with_law(alloc: Global, engine: Engine, law: L) -> Memory<L>
+        ensures engine { result.engine ≡ engine }
         ensures law { result.law ≡ law }
         ensures empty { result.values.items ≡ [] }
     {
         Memory {
             alloc,
-            manager,
+            engine,
             law,
             values: Vec::new(alloc),
         }
@@ -80,7 +95,7 @@ impl<L: Law + Copy> Memory<L> {
 
     /// A new cell. There are at most 524,288.
     pub fn cell<T: Word>(&mut self, value: T) -> Result<Cell<T>, Failed>
-        ensures manager { self.new.manager ≡ self.old.manager }
+        ensures engine { self.new.engine ≡ self.old.engine }
         ensures law { self.new.law ≡ self.old.law }
         ensures full { result ≡ Err failed.Full ↔ length self.old.values.items ≡ 524288 }
         ensures fails { IfErr result (λ why. self.new.values.items ≡ self.old.values.items) }
@@ -109,11 +124,11 @@ impl<L: Law + Copy> Memory<L> {
 
     /// A table that has the values of the cells, for a run of so many threads, from 1 to 63, and what gives out their
     /// parts.
-    pub fn found(&self, threads: u32) -> Result<(Stm<L>, Founder<L>), Failed>
+    pub fn found(&self, threads: u32) -> Result<(Table<L>, Founder<L>), Failed>
         requires lawful { L.holds self.now.law self.now.values.items }
         ensures founds { IfOk result (λ t. Founds self.now.law self.now.values.items t.0 t.1) }
-        ensures manager { IfOk result (λ t. t.0.terms.shape.manager ≡ self.now.manager) }
-        ensures callers { IfOk result (λ t. t.0.terms.shape.callers ≡ threads + 1) }
+        ensures engine { IfOk result (λ t. WorksBy self.now.engine t.0) }
+        ensures callers { IfOk result (λ t. callers_there t.0 ≡ threads + 1) }
         ensures threads { OnOk result ((1 ≤ threads) × (threads ≤ 63)) }
         ensures refused { result ≡ Err failed.Threads ↔ ((threads ≡ 0) ⊎ (63 < threads)) }
         ensures fails { IfErr result (λ why. (why ≡ failed.Threads) ⊎ (why ≡ failed.Memory)) }
@@ -121,31 +136,37 @@ impl<L: Law + Copy> Memory<L> {
         if threads == 0 || threads > MOST_THREADS {
             return Err(Failed::Threads);
         }
-        let shape = Shape {
-            manager: self.manager,
-            ..shape_for(self.values.len() as u32, threads + 1)
-        };
         let start = Vec::from_slice(self.alloc, &self.values)?;
-        Ok(Stm::make(self.alloc, start, shape, self.law)?)
+        match self.engine {
+            Engine::Dstm(manager) => {
+                let shape = Shape {
+                    manager,
+                    ..shape_for(self.values.len() as u32, threads + 1)
+                };
+                let mut zeros = Zeros::new(self.alloc);
+                Ok(make_dstm(self.alloc, &mut zeros, start, shape, self.law)?)
+            }
+            Engine::Tl2 => Ok(make_tl2(self.alloc, start, threads + 1, ATTEMPTS, self.law)?),
+        }
     }
 
     /// A thread's part in a run on a table that was founded for it. From the seed come the random lengths of its waits.
     pub fn part<'a>(
         &self,
-        stm: &'a Stm<L>,
+        table: &'a Table<L>,
         founder: &mut Founder<L>,
         seed: u64,
     ) -> Result<Me<'a, L>, Failed>
-        requires table { founder.old.home ≡ stm.now }
-        ensures table { founder.new.home ≡ stm.now }
-        ensures home { IfOk result (λ me. me.tx.caller.home ≡ stm.now) }
-        ensures enrols { IfOk result (λ me. Enrols L.holds founder.old founder.new seed me.tx.caller) }
-        ensures full { result ≡ Err failed.Threads ↔ founder.old.made ≡ founder.old.home.terms.shape.callers }
+        requires table { home_there founder.old ≡ table.now }
+        ensures table { home_there founder.new ≡ table.now }
+        ensures home { IfOk result (λ me. home_of me.tx.attempts.caller ≡ table.now) }
+        ensures enrols { IfOk result (λ me. Enrols L.holds founder.old founder.new seed me.tx.attempts.caller) }
+        ensures full { result ≡ Err failed.Threads ↔ made_of founder.old ≡ callers_there table.now }
         ensures fails { IfErr result (λ why. (why ≡ failed.Threads) ⊎ (why ≡ failed.Memory)) }
     {
-        match founder.caller(self.alloc, stm, seed) {
+        match founder.caller(self.alloc, table, seed) {
             Ok(caller) => Ok(Part {
-                tx: Tx::new(self.alloc, caller, stm),
+                tx: Tx::new(self.alloc, caller, table),
             }),
             Err(EnrolError::Memory(error)) => Err(Failed::from(error)),
             Err(EnrolError::Full) => Err(Failed::Threads),
@@ -154,88 +175,87 @@ impl<L: Law + Copy> Memory<L> {
 
     /// Takes the values of the cells from a table that was founded for a run, by a transaction of a part of its own: those
     /// that they have together at its place in the order of all transactions. They are lawful.
-    pub fn take(&mut self, stm: &Stm<L>, founder: &mut Founder<L>) -> Result<(), Failed>
+    pub fn take(&mut self, table: &Table<L>, founder: &mut Founder<L>) -> Result<(), Failed>
         requires lawful { L.holds self.old.law self.old.values.items }
-        requires founds { IsFor self.old.law self.old.values.items stm.now }
-        requires table { founder.old.home ≡ stm.now }
-        ensures manager { self.new.manager ≡ self.old.manager }
+        requires founds { IsFor self.old.law self.old.values.items table.now }
+        requires table { home_there founder.old ≡ table.now }
+        ensures engine { self.new.engine ≡ self.old.engine }
         ensures law { self.new.law ≡ self.old.law }
         ensures lawful { L.holds self.new.law self.new.values.items }
         ensures size { length self.new.values.items ≡ length self.old.values.items }
-        ensures table { founder.new.home ≡ stm.now }
+        ensures table { home_there founder.new ≡ table.now }
         ensures takes { OnOk result (Takes L.holds founder.old founder.new self.new.values.items) }
-        ensures full { result ≡ Err failed.Threads ↔ founder.old.made ≡ founder.old.home.terms.shape.callers }
+        ensures full { result ≡ Err failed.Threads ↔ made_of founder.old ≡ callers_there table.now }
         ensures fails { IfErr result (λ why. (self.new ≡ self.old)
             × ((why ≡ failed.Threads) ⊎ (why ≡ failed.Memory) ⊎ (why ≡ failed.Unread))) }
         ensures unread { result ≡ Err failed.Unread → LeavesUnread L.holds founder.old founder.new }
     {
-        let mut last = self.part(stm, founder, 0)?;
+        let mut last = self.part(table, founder, 0)?;
         self.take_by(&mut last)
     }
 
     // Takes the values of the cells by a part of a table that was founded for a run.
     fn take_by(&mut self, last: &mut Me<'_, L>) -> Result<(), Failed>
         requires lawful { L.holds self.old.law self.old.values.items }
-        requires founds { IsFor self.old.law self.old.values.items last.old.tx.caller.home }
-        ensures manager { self.new.manager ≡ self.old.manager }
+        requires founds { IsFor self.old.law self.old.values.items (home_of last.old.tx.attempts.caller) }
+        ensures engine { self.new.engine ≡ self.old.engine }
         ensures law { self.new.law ≡ self.old.law }
         ensures lawful { L.holds self.new.law self.new.values.items }
         ensures size { length self.new.values.items ≡ length self.old.values.items }
-        ensures reads { OnOk result (ReadsAll L.holds last.old.tx.caller self.new.values.items) }
+        ensures reads { OnOk result (ReadsAll L.holds last.old.tx.attempts.caller self.new.values.items) }
         ensures fails { IfErr result (λ why. (self.new ≡ self.old) × ((why ≡ failed.Memory) ⊎ (why ≡ failed.Unread))) }
-        ensures unread { result ≡ Err failed.Unread → CouldNotRead 64 last.old.tx.caller last.new.tx.caller }
+        ensures unread { result ≡ Err failed.Unread → CouldNotRead 64 last.old.tx.attempts.caller last.new.tx.attempts.caller }
     {
         self.values = last.tx.values(self.alloc, self.values.len() as u32)?;
         Ok(())
     }
 
     /// Takes back a thread's part of a table. What it has committed is told by the founder's log.
-    pub fn retire(&self, stm: &Stm<L>, founder: &mut Founder<L>, me: Me<'_, L>)
-        requires table { founder.old.home ≡ stm.now }
-        requires part { me.tx.caller.home ≡ stm.now }
-        ensures table { founder.new.home ≡ stm.now }
-        ensures retired { Retires L.holds founder.old founder.new me.entry.tx.caller }
+    pub fn retire(&self, table: &Table<L>, founder: &mut Founder<L>, me: Me<'_, L>)
+        requires table { home_there founder.old ≡ table.now }
+        requires part { home_of me.tx.attempts.caller ≡ table.now }
+        ensures table { home_there founder.new ≡ table.now }
+        ensures retired { Retires L.holds founder.old founder.new me.entry.tx.attempts.caller }
     {
         let Part { tx } = me;
-        let Tx { caller, .. } = tx;
-        founder.retire(stm, caller);
+        let Tx { attempts, .. } = tx;
+        founder.retire(table, attempts.into_caller());
     }
 
     /// Takes the values of the cells from a table that was founded for a run, and closes it: all parts are back, and the
     /// values are those behind all that took effect.
-    pub fn close(&mut self, stm: Stm<L>, founder: Founder<L>) -> Result<(), Failed>
-        requires founds { IsFor self.old.law self.old.values.items stm }
-        requires table { founder.home ≡ stm }
-        requires out { founder.view.out ≡ 0 }
-        ensures manager { self.new.manager ≡ self.old.manager }
+    pub fn close(&mut self, table: Table<L>, founder: Founder<L>) -> Result<(), Failed>
+        requires founds { IsFor self.old.law self.old.values.items table }
+        requires table { home_there founder ≡ table }
+        requires out { out_of founder ≡ 0 }
+        ensures engine { self.new.engine ≡ self.old.engine }
         ensures law { self.new.law ≡ self.old.law }
         ensures lawful { OnOk result (L.holds self.new.law self.new.values.items) }
         ensures size { length self.new.values.items ≡ length self.old.values.items }
-        ensures values { OnOk result (self.new.values.items ≡ state_after stm.terms.start.value.items
-            (history_of stm.terms.shape stm.terms.start.value.items founder.view.log)) }
+        ensures values { OnOk result (self.new.values.items ≡ state_after (start_there table) (history_by founder)) }
         ensures fails { IfErr result (λ why. (why ≡ failed.Memory) × (self.new ≡ self.old)) }
     {
-        self.values = stm.close_plain(self.alloc, founder)?;
+        self.values = table.close_plain(self.alloc, founder)?;
         Ok(())
     }
 
     // Gives out so many seats of the table.
     fn seats<'a>(
         &self,
-        stm: &'a Stm<L>,
+        table: &'a Table<L>,
         founder: &mut Founder<L>,
         count: u32,
     ) -> Result<Vec<Seat<'a, L>>, Failed>
-        requires table { founder.old.home ≡ stm.now }
-        requires room { founder.old.made + count ≤ founder.old.home.terms.shape.callers }
+        requires table { home_there founder.old ≡ table.now }
+        requires room { made_of founder.old + count ≤ callers_there table.now }
         ensures count { IfOk result (λ seats. length seats.items ≡ count) }
-        ensures new { IfOk result (λ seats. HaveNew L.holds stm.now seats.items) }
+        ensures new { IfOk result (λ seats. HaveNew L.holds table.now seats.items) }
         ensures fails { IfErr result (λ why. why ≡ failed.Memory) }
     {
         let mut seats = Vec::with_capacity(self.alloc, count as usize)?;
         for seed in 0..count {
             seats.push(Seat {
-                me: self.part(stm, founder, u64::from(seed))?,
+                me: self.part(table, founder, u64::from(seed))?,
                 ended: Ok(()),
             })?;
         }
@@ -253,7 +273,7 @@ impl<L: Law + Copy + Sync> Memory<L> {
         work: &W,
     ) -> Result<(), Failed>
         requires lawful { L.holds self.old.law self.old.values.items }
-        ensures manager { self.new.manager ≡ self.old.manager }
+        ensures engine { self.new.engine ≡ self.old.engine }
         ensures law { self.new.law ≡ self.old.law }
         ensures lawful { L.holds self.new.law self.new.values.items }
         ensures size { length self.new.values.items ≡ length self.old.values.items }
@@ -264,9 +284,9 @@ impl<L: Law + Copy + Sync> Memory<L> {
             (WasUnread L.holds self.old.law self.old.values.items) threads) }
         ensures left { LeavesBy (Ran L.holds self.old.law self.old.values.items self.new.values.items) (self.new ≡ self.old) result }
     {
-        let (stm, mut founder) = self.found(threads)?;
-        let mut last = self.part(&stm, &mut founder, 0)?;
-        let mut seats = self.seats(&stm, &mut founder, threads)?;
+        let (table, mut founder) = self.found(threads)?;
+        let mut last = self.part(&table, &mut founder, 0)?;
+        let mut seats = self.seats(&table, &mut founder, threads)?;
         for_each_mut(
             rt,
             &mut seats,
@@ -287,7 +307,7 @@ impl Memory {
     where
         F: Fn(&mut Me<'_>, usize) -> Result<(), GaveUp> + Sync,
         requires callable { F.IsAlwaysCallable f }
-        ensures manager { self.new.manager ≡ self.old.manager }
+        ensures engine { self.new.engine ≡ self.old.engine }
         ensures size { length self.new.values.items ≡ length self.old.values.items }
         ensures threads { OnOk result ((1 ≤ threads) × (threads ≤ 63)) }
         ensures refused { (threads ≡ 0) ⊎ (63 < threads) → (result ≡ Err failed.Threads) × (self.new ≡ self.old) }
@@ -299,9 +319,9 @@ impl Memory {
         ensures left { LeavesBy (Ran ⟦<AnyLaw as Law>⟧.holds self.old.law self.old.values.items self.new.values.items)
             (self.new ≡ self.old) result }
     {
-        let (stm, mut founder) = self.found(threads)?;
-        let mut last = self.part(&stm, &mut founder, 0)?;
-        let mut seats = self.seats(&stm, &mut founder, threads)?;
+        let (table, mut founder) = self.found(threads)?;
+        let mut last = self.part(&table, &mut founder, 0)?;
+        let mut seats = self.seats(&table, &mut founder, threads)?;
         for_each_mut(
             rt,
             &mut seats,

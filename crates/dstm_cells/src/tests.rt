@@ -1,6 +1,8 @@
-// Each call once, and what no clause says.
-use crate::{Cell, Failed, GaveUp, Manager, Memory, Word};
+// Each call once, by both engines, and what no clause says.
+use crate::{Cell, Engine, Failed, GaveUp, Manager, Memory, Word};
+use std::process::Abort;
 use std::test::Fail;
+use std::thread::Threads;
 
 fn comes_back<T: Word + PartialEq>(value: T) -> bool {
     T::of_val(value.to_val()) == value
@@ -17,12 +19,11 @@ fn what_is_put_is_found(rt: HostRuntime) {
     assert!(rt; comes_back(None::<u64>));
 }
 
-#[test]
-fn a_transaction_reads_and_changes_cells(rt: HostRuntime) -> Result<(), Fail> {
-    let mut memory = Memory::with_manager(rt.alloc(), Manager::Karma);
+fn reads_and_changes<R: Abort + Threads + Sync>(rt: &R, memory: Memory) -> Result<(), Fail> {
+    let mut memory = memory;
     let one = memory.cell(5u64)?;
     let two = memory.cell((1u64, 2u64))?;
-    memory.run(&rt, 1, |me, _| {
+    memory.run(rt, 1, |me, _| {
         let found = me.atomically(|tx| {
             let had = tx.update(one, |n| n / 2)?;
             let pair = tx.replace(two, (3, 4))?;
@@ -37,12 +38,17 @@ fn a_transaction_reads_and_changes_cells(rt: HostRuntime) -> Result<(), Fail> {
 }
 
 #[test]
-fn what_an_alternative_has_set_is_undone(rt: HostRuntime) -> Result<(), Fail> {
-    let mut memory = Memory::new(rt.alloc());
+fn a_transaction_reads_and_changes_cells(rt: HostRuntime) -> Result<(), Fail> {
+    reads_and_changes(&rt, Memory::new(rt.alloc()))?;
+    reads_and_changes(&rt, Memory::with_manager(rt.alloc(), Manager::Karma))
+}
+
+fn undoes<R: Abort + Threads + Sync>(rt: &R, memory: Memory) -> Result<(), Fail> {
+    let mut memory = memory;
     let one = memory.cell(1u64)?;
     let two = memory.cell(2u64)?;
     let seen = memory.cell((0u64, 0u64))?;
-    memory.run(&rt, 1, |me, _| {
+    memory.run(rt, 1, |me, _| {
         me.atomically(|tx| {
             tx.set(two, 20)?;
             let found = tx.or_else(
@@ -67,10 +73,15 @@ fn what_an_alternative_has_set_is_undone(rt: HostRuntime) -> Result<(), Fail> {
 }
 
 #[test]
-fn the_first_alternative_is_taken_where_it_does_not_retry(rt: HostRuntime) -> Result<(), Fail> {
-    let mut memory = Memory::new(rt.alloc());
+fn what_an_alternative_has_set_is_undone(rt: HostRuntime) -> Result<(), Fail> {
+    undoes(&rt, Memory::new(rt.alloc()))?;
+    undoes(&rt, Memory::with_manager(rt.alloc(), Manager::Polka))
+}
+
+fn goes_by_the_first<R: Abort + Threads + Sync>(rt: &R, memory: Memory) -> Result<(), Fail> {
+    let mut memory = memory;
     let cell = memory.cell(1u64)?;
-    memory.run(&rt, 1, |me, _| {
+    memory.run(rt, 1, |me, _| {
         me.atomically(|tx| tx.or_else(|tx| tx.set(cell, 2), |tx| tx.set(cell, 3)))
     })?;
     assert_eq!(rt; memory.get(cell), 2);
@@ -78,11 +89,16 @@ fn the_first_alternative_is_taken_where_it_does_not_retry(rt: HostRuntime) -> Re
 }
 
 #[test]
-fn a_transaction_waits_for_what_it_has_read(rt: HostRuntime) -> Result<(), Fail> {
-    let mut memory = Memory::new(rt.alloc());
+fn the_first_alternative_is_taken_where_it_does_not_retry(rt: HostRuntime) -> Result<(), Fail> {
+    goes_by_the_first(&rt, Memory::new(rt.alloc()))?;
+    goes_by_the_first(&rt, Memory::with_manager(rt.alloc(), Manager::Polka))
+}
+
+fn waits<R: Abort + Threads + Sync>(rt: &R, memory: Memory) -> Result<(), Fail> {
+    let mut memory = memory;
     let open = memory.cell(false)?;
     let passed = memory.cell(0u64)?;
-    memory.run(&rt, 2, |me, number| {
+    memory.run(rt, 2, |me, number| {
         if number == 1 {
             return me.atomically(|tx| tx.set(open, true));
         }
@@ -97,42 +113,93 @@ fn a_transaction_waits_for_what_it_has_read(rt: HostRuntime) -> Result<(), Fail>
 }
 
 #[test]
-fn a_run_tells_why_it_failed(rt: HostRuntime) -> Result<(), Fail> {
-    let mut memory = Memory::new(rt.alloc());
-    let cell = memory.cell(0u64)?;
-    let mut larger = Memory::new(rt.alloc());
+fn a_transaction_waits_for_what_it_has_read(rt: HostRuntime) -> Result<(), Fail> {
+    waits(&rt, Memory::new(rt.alloc()))?;
+    waits(&rt, Memory::with_manager(rt.alloc(), Manager::Greedy))
+}
+
+fn fails<R: Abort + Threads + Sync>(rt: &R, memory: Memory, larger: Memory) -> Result<(), Fail> {
+    let mut memory = memory;
+    let mut larger = larger;
+    let _cell = memory.cell(0u64)?;
     let _first = larger.cell(0u64)?;
     let foreign: Cell<u64> = larger.cell(0u64)?;
-    let idle = memory.run(&rt, 1, |me, _| {
+    let idle = memory.run(rt, 1, |me, _| {
         me.set_looks(8);
         me.atomically(|tx| tx.ensure(false))
     });
     assert_eq!(rt; idle, Err(Failed::GaveUp(GaveUp::Idle)));
-    let strange = memory.run(&rt, 1, |me, _| me.atomically(|tx| tx.set(foreign, 1)));
+    let strange = memory.run(rt, 1, |me, _| me.atomically(|tx| tx.set(foreign, 1)));
     assert_eq!(rt; strange, Err(Failed::GaveUp(GaveUp::Foreign)));
-    let spent = memory.run(&rt, 1, |me, _| {
-        for _ in 0..65_537 {
-            me.atomically(|tx| tx.update(cell, |n| n.wrapping_add(1)))?;
-        }
-        Ok(())
-    });
-    assert_eq!(rt; spent, Err(Failed::GaveUp(GaveUp::Spent)));
-    assert_eq!(rt; memory.get(cell), 65_536);
-    assert_eq!(rt; memory.run(&rt, 0, |_, _| Ok(())), Err(Failed::Threads));
-    assert_eq!(rt; memory.run(&rt, 64, |_, _| Ok(())), Err(Failed::Threads));
+    assert_eq!(rt; memory.run(rt, 0, |_, _| Ok(())), Err(Failed::Threads));
+    assert_eq!(rt; memory.run(rt, 64, |_, _| Ok(())), Err(Failed::Threads));
     Ok(())
 }
 
 #[test]
-fn a_part_is_taken_back_and_a_table_closed(rt: HostRuntime) -> Result<(), Fail> {
+fn a_run_tells_why_it_failed(rt: HostRuntime) -> Result<(), Fail> {
+    fails(&rt, Memory::new(rt.alloc()), Memory::new(rt.alloc()))?;
+    fails(
+        &rt,
+        Memory::with_manager(rt.alloc(), Manager::Polka),
+        Memory::new(rt.alloc()),
+    )
+}
+
+// Adds one to a cell 65,537 times in one run.
+fn adds_often<R: Threads + Sync>(
+    rt: &R,
+    memory: &mut Memory,
+    cell: Cell<u64>,
+) -> Result<(), Failed> {
+    memory.run(rt, 1, |me, _| {
+        for _ in 0..65_537 {
+            me.atomically(|tx| tx.update(cell, |n| n.wrapping_add(1)))?;
+        }
+        Ok(())
+    })
+}
+
+#[test]
+fn by_dstm_the_attempts_of_a_thread_are_used_up(rt: HostRuntime) -> Result<(), Fail> {
+    let mut memory = Memory::with_manager(rt.alloc(), Manager::Polka);
+    let cell = memory.cell(0u64)?;
+    let spent = adds_often(&rt, &mut memory, cell);
+    assert_eq!(rt; spent, Err(Failed::GaveUp(GaveUp::Spent)));
+    assert_eq!(rt; memory.get(cell), 65_536);
+    Ok(())
+}
+
+#[test]
+fn by_tl2_they_are_not(rt: HostRuntime) -> Result<(), Fail> {
     let mut memory = Memory::new(rt.alloc());
+    let cell = memory.cell(0u64)?;
+    adds_often(&rt, &mut memory, cell)?;
+    assert_eq!(rt; memory.get(cell), 65_537);
+    Ok(())
+}
+
+fn is_taken_back<R: Abort>(rt: &R, memory: Memory) -> Result<(), Fail> {
+    let mut memory = memory;
     let cell = memory.cell(7u64)?;
-    let (stm, mut founder) = memory.found(1)?;
-    let me = memory.part(&stm, &mut founder, 0)?;
-    memory.retire(&stm, &mut founder, me);
+    let (table, mut founder) = memory.found(1)?;
+    let me = memory.part(&table, &mut founder, 0)?;
+    memory.retire(&table, &mut founder, me);
     assert_eq!(rt; founder.out(), 0);
     let (other, founder) = memory.found(1)?;
     memory.close(other, founder)?;
     assert_eq!(rt; memory.get(cell), 7);
     Ok(())
+}
+
+#[test]
+fn a_part_is_taken_back_and_a_table_closed(rt: HostRuntime) -> Result<(), Fail> {
+    is_taken_back(&rt, Memory::new(rt.alloc()))?;
+    is_taken_back(&rt, Memory::with_manager(rt.alloc(), Manager::Polka))
+}
+
+#[test]
+fn an_engine_is_told(rt: HostRuntime) {
+    assert_eq!(rt; Engine::Dstm(Manager::Karma), Engine::Dstm(Manager::Karma));
+    assert!(rt; Engine::Tl2 != Engine::Dstm(Manager::Karma));
 }

@@ -1,16 +1,14 @@
 // What makes the transactions of a thread, one after the other.
 ghost use Rattle.std.specs.Prelude.{◌++◌, ◌≡◌, ℕ, List, [], true, false, length, IfErr, OnOk};
-ghost use Rattle.dstm_engine.specs.Callers.{Called, shape_of};
-ghost use Rattle.dstm_engine.specs.Transactions.{BeginsAnew};
+ghost use Rattle.dstm_tables.specs.declared.tables.Caller.{Caller};
+ghost use Rattle.dstm_attempts.specs.Attempts.{AddsNothing, Begins, IsLost, IsSpent, Keeps, LeavesLawful, TakesEffect, attempts_of, renewed};
 ghost use Rattle.dstm_cells.specs.Alternatives.{Noting, StopsUndoing, Undoes, noting, settings};
-ghost use Rattle.dstm_cells.specs.Attempts.{Follows, IsLost, IsSpent};
-ghost use Rattle.dstm_cells.specs.UnderWay.{AddsNothing, Keeps, LeavesLawful, TakesEffect};
+ghost use Rattle.dstm_cells.specs.Attempts.{Follows, StaysFor};
 ghost use Rattle.dstm_cells.specs.declared.error.GaveUp.TheVariants.{Spent};
 ghost use Rattle.dstm_cells.specs.declared.under_way.Undo.{Undo};
 
 use crate::error::{GaveUp, Stop};
 use crate::under_way::Tx;
-use dstm_engine::{Caller, Stm};
 use dstm_model::Law;
 
 /// What makes the transactions of a thread, one after the other, on a memory under a law: a `Tx`.
@@ -19,7 +17,7 @@ pub trait Transaction: Drop {
     type Rule: Law;
 
     /// The caller of a table that makes the attempts.
-    ghost caller: { Self → Called Self.Rule };
+    ghost caller: { Self → Caller Self.Rule };
 
     /// How often a transaction that retries looks at most.
     ghost patience: { Self → ℕ };
@@ -28,16 +26,16 @@ pub trait Transaction: Drop {
     ghost noting: { Self → Noting Self.Rule };
 
     /// The attempts of its caller in a run.
-    fn attempts(&self) -> u32
-        ensures { result ≡ (shape_of (caller self.now)).attempts };
+    fn attempts(&self) -> u64
+        ensures { result ≡ attempts_of (caller self.now) };
 
     /// Makes the next attempt the first of a new transaction.
     fn renew(&mut self)
-        ensures { caller self.new ≡ record (caller self.old) { fresh = true } };
+        ensures { caller self.new ≡ renewed (caller self.old) };
 
     /// Begins an attempt.
     fn begin(&mut self) -> Result<(), GaveUp>
-        ensures begins { OnOk result (BeginsAnew Self.Rule.holds (caller self.old) (caller self.new)) }
+        ensures begins { OnOk result (Begins Self.Rule.holds (caller self.old) (caller self.new)) }
         ensures spent { IfErr result (λ why. (why ≡ Spent) × IsSpent (caller self.new)) }
         ensures nothing { AddsNothing (caller self.old) (caller self.new) };
 
@@ -50,8 +48,8 @@ pub trait Transaction: Drop {
 
     /// Leaves the attempt that a closure has stopped, and tells whether there may be another one.
     fn leave(&mut self, stop: Stop) -> Result<(), GaveUp>
-        ensures keeps { Keeps (caller self.old) (caller self.new) }
-        ensures follows { Follows Self.Rule.holds (patience self.old) (caller self.old) stop result };
+        ensures stays { StaysFor stop.cause (caller self.old) (caller self.new) }
+        ensures follows { Follows Self.Rule.holds (patience self.old) (caller self.old) stop.cause result };
 
     /// How often a transaction that retries looks at most whether something that it has read has changed.
     fn set_looks(&mut self, looks: u32)
@@ -82,37 +80,37 @@ pub trait Transaction: Drop {
 impl<'a, L: Law> Transaction for Tx<'a, L> {
     type Rule = L;
 
-    ghost caller = { λ tx. tx.caller };
+    ghost caller = { λ tx. tx.attempts.caller };
 
     ghost patience = { λ tx. tx.looks };
 
     ghost noting = { noting };
 
-    fn attempts(&self) -> u32 {
-        self.stm.shape().attempts
+    fn attempts(&self) -> u64 {
+        self.attempts.attempts(self.table)
     }
 
     fn renew(&mut self) {
-        self.caller.next_transaction();
+        self.attempts.renew();
     }
 
     fn begin(&mut self) -> Result<(), GaveUp> {
         self.undos.clear();
         self.notes = false;
-        begin(&mut self.caller, self.stm)
+        let Ok(()) = self.attempts.begin(self.table) else {
+            return Err(GaveUp::Spent);
+        };
+        Ok(())
     }
 
     fn commit(&mut self) -> bool {
-        let tx = self.caller.resume(self.stm);
-        if !tx.is_live() {
-            return false;
-        }
-        tx.commit().is_ok()
+        self.attempts.commit(self.table)
     }
 
     fn leave(&mut self, stop: Stop) -> Result<(), GaveUp> {
-        let next = self.follow(stop);
-        self.caller.resume(self.stm).abandon();
+        let Stop { cause } = stop;
+        let next = self.follow(cause);
+        self.attempts.abandon(self.table);
         next
     }
 
@@ -139,18 +137,4 @@ impl<'a, L: Law> Transaction for Tx<'a, L> {
         }
         Ok(())
     }
-}
-
-// Begins an attempt of a caller, which stays one of the table.
-fn begin<L: Law>(caller: &mut Caller<L>, stm: &Stm<L>) -> Result<(), GaveUp>
-    requires table { caller.old.home ≡ stm.now }
-    ensures table { caller.new.home ≡ stm.now }
-    ensures begins { OnOk result (BeginsAnew L.holds caller.old caller.new) }
-    ensures spent { IfErr result (λ why. (why ≡ Spent) × IsSpent caller.new) }
-    ensures nothing { AddsNothing caller.old caller.new }
-{
-    let Ok(_tx) = caller.begin(stm) else {
-        return Err(GaveUp::Spent);
-    };
-    Ok(())
 }

@@ -2,9 +2,10 @@
 use Rattle.std.proofs.Common.{◌≡◌, ℕ, zero, suc, ◌+◌, ◌-◌, ◌≤◌, ◌%◌, ◌^◌, ◌∙◌, List, [], ◌∷◌, ap, arith, refl, slice_set, subst, sym}
 use Rattle.std.specs.Prelude.{true}
 use Rattle.dstm_model.specs.declared.value.Val.{Val}
-use Rattle.dstm_engine.specs.Callers.{Called, law_of}
+use Rattle.dstm_tables.specs.Callers.{law_of}
+use Rattle.dstm_tables.specs.declared.tables.Caller.{Caller}
 use Rattle.dstm_cells.specs.UnderWay.{Changes, Gets, IsUntouched, MayBegin, seen}
-use Rattle.dstm_cells.proofs.Found.{found_at, put_at}
+use Rattle.dstm_cells.proofs.Found.{found_at, lawful_at, put_at}
 use Rattle.example_office.specs.declared.sale.NoneLost.{NoneLost}
 use Rattle.example_office.specs.Tickets.{AddUp, AreCells, Sells, count_at}
 
@@ -32,7 +33,7 @@ sale all left desk map less more a cells some l m =
     let size = a.cells in let first = cells.0 in let low = cells.1 in let high = cells.2 in absurd (omega arith)
 
 -- what the calls of a sale do, of each map at which the attempt may have begun
-pub sold : (k m₁ m₂ m₃ n : Called NoneLost) (left desk tickets had before after more : ℕ) → AreCells left desk →
+pub sold : (k m₁ m₂ m₃ n : Caller NoneLost) (left desk tickets had before after more : ℕ) → AreCells left desk →
     1 ≤ tickets → Gets holds count k m₁ left tickets → Gets holds count m₁ m₂ desk had →
     Changes holds count m₂ m₃ left before (tickets - 1) → Changes holds count m₃ n desk after more →
     more ≡ (had + 1) % 2 ^ 64 → IsUntouched k → (map : List Val) → MayBegin holds n map →
@@ -46,6 +47,6 @@ sold k m₁ m₂ m₃ n left desk tickets had before after more cells some g₁ 
     let (less, fewer, at₃) = (put_at holds count m₂ m₃ left map map before (tickets - 1) s₁ may₃ at₂).0 in
     let (greater, larger, at) = (put_at holds count m₃ n desk map (slice_set map left less) after more s₂ may at₃).0 in
     let (adds, sells) =
-    sale (law_of n).all left desk map less greater may.lawful cells (subst (λ t. 1 ≤ t) one some)
+    sale (law_of n).all left desk map less greater (lawful_at holds n map may) cells (subst (λ t. 1 ≤ t) one some)
     (fewer ∙ ap (λ t. t - 1) one) (larger ∙ is ∙ ap (λ t. (t + 1) % 2 ^ 64) two) in
     (subst (AddUp (law_of n).all) (sym at) adds, subst (Sells desk true map) (sym at) sells)

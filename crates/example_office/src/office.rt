@@ -2,7 +2,7 @@
 ghost use Rattle.std.specs.Prelude.{◌≡◌, ◌+◌, IfOk};
 
 use crate::sale::{Desks, NoneLost};
-use dstm_cells::{Failed, Manager, Memory};
+use dstm_cells::{Engine, Failed, Memory};
 use std::alloc::Global;
 use std::thread::Threads;
 
@@ -18,7 +18,7 @@ pub struct Sales {
 pub fn sell_all<R: Threads + Sync>(rt: &R, alloc: Global, all: u64) -> Result<Sales, Failed>
     ensures { IfOk result (λ sales. sales.left + sales.east + sales.west ≡ all) }
 {
-    let mut office = Memory::with_law(alloc, Manager::Karma, NoneLost { all });
+    let mut office = Memory::with_law(alloc, Engine::Tl2, NoneLost { all });
     let left = office.cell(all)?;
     let east = office.cell(0u64)?;
     let west = office.cell(0u64)?;

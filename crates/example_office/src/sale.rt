@@ -21,11 +21,11 @@ impl Law for NoneLost {
 // Sells one ticket at a desk, and tells whether one was left.
 fn sell(tx: &mut Tx<'_, NoneLost>, left: Cell<u64>, desk: Cell<u64>) -> Result<bool, Stop>
     requires cells { AreCells left.object desk.object }
-    ensures keeps { Keeps tx.old.caller tx.new.caller }
-    ensures lawful { OnOk result (IsUntouched tx.old.caller → LeavesLawful ⟦<NoneLost as Law>⟧.holds tx.new.caller) }
-    ensures right { IfOk result (λ sold. IsUntouched tx.old.caller → (map : List Val)
-        → MayBegin ⟦<NoneLost as Law>⟧.holds tx.new.caller map
-        → Sells desk.object sold map (seen tx.new.caller map)) }
+    ensures keeps { Keeps tx.old.attempts.caller tx.new.attempts.caller }
+    ensures lawful { OnOk result (IsUntouched tx.old.attempts.caller → LeavesLawful ⟦<NoneLost as Law>⟧.holds tx.new.attempts.caller) }
+    ensures right { IfOk result (λ sold. IsUntouched tx.old.attempts.caller → (map : List Val)
+        → MayBegin ⟦<NoneLost as Law>⟧.holds tx.new.attempts.caller map
+        → Sells desk.object sold map (seen tx.new.attempts.caller map)) }
 {
     let tickets = tx.get(left)?;
     if tickets == 0 {

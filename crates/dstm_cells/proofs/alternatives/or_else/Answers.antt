@@ -1,9 +1,9 @@
 use Rattle.std.proofs.Common.{◌≡◌, ◌∙◌, Err, ap, inl, inr, refl, subst}
 use Rattle.std.specs.Prelude.{Result}
 use Rattle.dstm_cells.specs.Alternatives.{Noting, StopsUndoing}
-use Rattle.dstm_cells.specs.UnderWay.{attempt}
+use Rattle.dstm_cells.specs.UnderWay.{attempt, stop_by}
 use Rattle.dstm_cells.specs.declared.error.Stop.{Stop}
-use Rattle.dstm_cells.specs.declared.error.Stop.TheVariants.{Retry}
+use Rattle.dstm_cells.specs.declared.error.Cause.TheVariants.{Retry}
 use Rattle.dstm_cells.proofs.Alternating.{First, called, leaves, left_notes, stopped, undone}
 use Rattle.dstm_cells.proofs.Calling.{err_is, once_at, once_kept}
 use Rattle.dstm_cells.proofs.Undoing.{notes_twice, undone_notes}
@@ -59,19 +59,19 @@ returns-in_err-undo_to-clause-keeps g c first second =
 pub returns-in_err-undo_to-clause-notes : goal.returns-in_err-undo_to-clause-notes
 returns-in_err-undo_to-clause-notes g c first second =
     let noting = g.X.Transaction.noting in
-    let it = first_called g (goal.at.returns-in_err-undo_to-clause-notes g c).After-has_retried (Err Retry) (c.has_retried.ensures.retries c.if-not-has_retried.false) in
+    let it = first_called g (goal.at.returns-in_err-undo_to-clause-notes g c).After-has_retried (Err (stop_by Retry)) (c.has_retried.ensures.retries c.if-not-has_retried.false) in
     stopped noting g.F.FnOnce c.args.first g.X.Rule.Law.holds c.args.tx.now c.note-notes.new.self c.first-answer.new.arg2
-    c.note-noted.new.self (Err Retry) it first
+    c.note-noted.new.self (Err (stop_by Retry)) it first
     c.undo_to.new.self c.noted-kept.result c.noted-kept.ensures c.undo_to.ensures.keeps c.undo_to.ensures.notes c.in_err-undo_to.ensures.left
 
 pub returns-in_err-undo_to-clause-does : goal.returns-in_err-undo_to-clause-does
 returns-in_err-undo_to-clause-does g c first =
     let noting = g.X.Transaction.noting in
-    let it = first_called g (goal.at.returns-in_err-undo_to-clause-does g c).After-has_retried (Err Retry) (c.has_retried.ensures.retries c.if-not-has_retried.false) in
+    let it = first_called g (goal.at.returns-in_err-undo_to-clause-does g c).After-has_retried (Err (stop_by Retry)) (c.has_retried.ensures.retries c.if-not-has_retried.false) in
     inr (inr (record {
       left = noting c.first-answer.new.arg2;
       retries = called noting g.F.FnOnce c.args.first g.X.Rule.Law.holds c.args.tx.now c.note-notes.new.self c.first-answer.new.arg2
-          c.note-noted.new.self (Err Retry) it;
+          c.note-noted.new.self (Err (stop_by Retry)) it;
       stop = c.in_err-undo_to.field-0.0;
       is = err_is c.from_residual.result _ c.from_residual.ensures.1;
       stops = subst (λ (k : Noting _). StopsUndoing g.X.Rule.Law.holds k.caller (noting c.undo_to.new.self).caller c.in_err-undo_to.field-0.0)
@@ -89,9 +89,9 @@ returns-clause-keeps g c first second =
 pub returns-clause-notes : goal.returns-clause-notes
 returns-clause-notes g c first second =
     let noting = g.X.Transaction.noting in
-    let it = first_called g (goal.at.returns-clause-notes g c).After-has_retried (Err Retry) (c.has_retried.ensures.retries c.if-not-has_retried.false) in
+    let it = first_called g (goal.at.returns-clause-notes g c).After-has_retried (Err (stop_by Retry)) (c.has_retried.ensures.retries c.if-not-has_retried.false) in
     let back = undone noting g.F.FnOnce c.args.first g.X.Rule.Law.holds c.args.tx.now c.note-notes.new.self c.first-answer.new.arg2
-    c.note-noted.new.self (Err Retry) it first
+    c.note-noted.new.self (Err (stop_by Retry)) it first
     c.undo_to.new.self c.noted-kept.result c.noted-kept.ensures c.undo_to.ensures.keeps c.undo_to.ensures.notes c.in_ok-undo_to.ensures.undone in
     notes_twice g.X.Rule.Law.holds (noting c.args.tx.now) (noting c.undo_to.new.self) (noting c.second.new.arg2)
     (undone_notes g.X.Rule.Law.holds _ _ back)
@@ -100,14 +100,14 @@ returns-clause-notes g c first second =
 pub returns-clause-does : goal.returns-clause-does
 returns-clause-does g c first =
     let noting = g.X.Transaction.noting in
-    let it = first_called g (goal.at.returns-clause-does g c).After-has_retried (Err Retry) (c.has_retried.ensures.retries c.if-not-has_retried.false) in
+    let it = first_called g (goal.at.returns-clause-does g c).After-has_retried (Err (stop_by Retry)) (c.has_retried.ensures.retries c.if-not-has_retried.false) in
     inr (inl (record {
       left = noting c.first-answer.new.arg2;
       retries = called noting g.F.FnOnce c.args.first g.X.Rule.Law.holds c.args.tx.now c.note-notes.new.self c.first-answer.new.arg2
-          c.note-noted.new.self (Err Retry) it;
+          c.note-noted.new.self (Err (stop_by Retry)) it;
       between = noting c.undo_to.new.self;
       undone = undone noting g.F.FnOnce c.args.first g.X.Rule.Law.holds c.args.tx.now c.note-notes.new.self c.first-answer.new.arg2
-          c.note-noted.new.self (Err Retry) it first
+          c.note-noted.new.self (Err (stop_by Retry)) it first
           c.undo_to.new.self c.noted-kept.result c.noted-kept.ensures c.undo_to.ensures.keeps c.undo_to.ensures.notes c.in_ok-undo_to.ensures.undone;
       called = record {
         began = c.undo_to.new.self;

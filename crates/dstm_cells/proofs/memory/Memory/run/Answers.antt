@@ -4,8 +4,7 @@ use denote.Param.Send.{sendable}
 use Rattle.std.proofs.Crossing.{crosses}
 use Rattle.dstm_model.proofs.value.AnyLaw.TheSendSync as AnyLaw
 use Rattle.dstm_model.specs.contracts.value.AnyLawLaw.TheImpl as TheLaw
-use Rattle.dstm_engine.specs.Companies.{IsNew}
-use Rattle.dstm_cells.specs.Runs.{CalledFor, End, FailsFor}
+use Rattle.dstm_cells.specs.Runs.{CalledFor, End, FailsFor, IsNew}
 use Rattle.dstm_cells.specs.declared.memory.Seat.{Seat}
 use Rattle.dstm_cells.proofs.Calling.{is_err}
 use Rattle.dstm_cells.proofs.Running.{has_left, lent_back, ran_leaves, told, untaken, was_unread}
@@ -28,7 +27,7 @@ abbrev called : (g : Over) (c : After-how_all_ended g) → ℕ → End → Type 
 called g c = CalledFor TheLaw.holds-value.it g.F.Fn c.args.f c.args.self.now.law c.args.self.now.values.items
 
 -- the closure was called with each number, and has ended as its seat tells
-ended : (g : Over) (c : After-how_all_ended g) (other : Seat _) (number : ℕ) → number < c.args.threads →
+ended : (g : Over) (c : After-how_all_ended g) (other : Seat _ _) (number : ℕ) → number < c.args.threads →
     called g c number (slice_index_or c.for_each_mut.new.s number other).ended
 ended g c other number below =
     let some : length c.deref_mut.result.now ≡ c.args.threads = ap length c.deref_mut.ensures.value ∙ c.in_ok-seats.ensures.count in
@@ -36,22 +35,22 @@ ended g c other number below =
     let new = c.in_ok-seats.ensures.new number other (omega (arith, c.in_ok-seats.ensures.count, below)) in
     let call : called g c number change.after_call.now.ended =
     record {
-      home = c.in_ok-stm.stm;
-      starts = c.in_ok-stm.ensures.founds.starts;
+      table = c.in_ok-table.table;
+      starts = c.in_ok-table.ensures.founds.starts;
       began = change.argument.now.me;
-      new = subst (λ (seat : Seat _). IsNew TheLaw.holds-value.it c.in_ok-stm.stm number seat.me.tx.caller)
+      new = subst (λ (seat : Seat _ _). IsNew TheLaw.holds-value.it c.in_ok-table.table number seat.me.tx.attempts.caller)
           (sym (change.argument_is ∙ ap (λ (xs : List _). slice_index_or xs number other) c.deref_mut.ensures.value)) new;
       ended = change.after_call.now.me;
       call = change.call;
     } in
-    subst (called g c number) (ap (λ (seat : Seat _). seat.ended) change.left) call
+    subst (called g c number) (ap (λ (seat : Seat _ _). seat.ended) change.left) call
 
 -- and so it tells
 tells : (g : Over) (c : After-how_all_ended g) (unread : Type 0) →
     OnOk c.how_all_ended.result ((number : ℕ) → number < c.args.threads → called g c number (Ok tt))
     × IfErr c.how_all_ended.result (FailsFor (called g c) unread c.args.threads)
 tells g c unread =
-    let other : Seat _ = record { me = c.in_ok-last.last; ended = Ok tt } in
+    let other : Seat _ _ = record { me = c.in_ok-last.last; ended = Ok tt } in
     told c.deref.result.now c.for_each_mut.new.s c.args.threads (seats_left g c) (called g c) other (ended g c other)
     unread c.how_all_ended.result c.how_all_ended.ensures.well c.how_all_ended.ensures.first
 
@@ -64,12 +63,14 @@ returns-clause-fails g c = (tells g (goal.at.returns-clause-fails g c).After-how
 pub returns-clause-left : goal.returns-clause-left
 returns-clause-left g c =
     ran_leaves c.deref.result.now _ _ c.how_all_ended.result c.how_all_ended.ensures.first
-    (has_left TheLaw.holds-value.it c.in_ok-stm.ensures.founds c.in_ok-last.ensures.enrols c.in_ok-take_by.ensures.reads)
+    (has_left TheLaw.holds-value.it c.part.new.founder c.in_ok-last.last.tx.attempts.caller c.in_ok-table.ensures.founds
+    c.in_ok-last.ensures.enrols c.in_ok-take_by.ensures.reads)
 
 pub returns-in_err-take_by-clause-fails : goal.returns-in_err-take_by-clause-fails
 returns-in_err-take_by-clause-fails g c =
     let why = c.in_err-take_by.field-0.0 in
     is_err c.from_residual-in_err-take_by.result why (FailsFor _ _ c.args.threads) c.from_residual-in_err-take_by.ensures.1
     (untaken _ _ c.args.threads why c.in_err-take_by.ensures.fails.1 (λ unread.
-    was_unread TheLaw.holds-value.it c.in_ok-stm.ensures.founds c.in_ok-last.ensures.enrols
+    was_unread TheLaw.holds-value.it c.part.new.founder c.in_ok-last.last.tx.attempts.caller c.in_ok-table.ensures.founds
+    c.in_ok-last.ensures.enrols
     (c.in_err-take_by.ensures.unread (ap Err unread))))

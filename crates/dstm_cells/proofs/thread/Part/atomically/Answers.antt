@@ -1,12 +1,13 @@
-use Rattle.std.proofs.Common.{◌≡◌, ◌∙◌, ap, arith, inl, inr, of_calls, refl, subst, sym}
+use Rattle.std.proofs.Common.{◌≡◌, ◌≤◌, ◌∙◌, ap, arith, inl, inr, of_calls, refl, subst, sym}
 use Rattle.std.specs.Fn.{CalledAtMut}
-use Rattle.dstm_engine.specs.Callers.{Called, shape_of}
-use Rattle.dstm_words.specs.Seats.{Home}
-use Rattle.dstm_cells.specs.UnderWay.{attempt}
+use Rattle.dstm_tables.specs.declared.tables.Caller.{Caller}
+use Rattle.dstm_attempts.specs.Attempts.{AddsNothing, attempt, attempts_of, begun}
+use Rattle.dstm_cells.specs.Attempts.{StaysFor}
 use Rattle.dstm_cells.specs.declared.thread.Part.{Part}
+use Rattle.dstm_attempts.proofs.UnderWay.{adds_nothing, begins_none, nothing_twice, spent_at}
 use Rattle.dstm_cells.proofs.Calling.{called_anew, called_at, if_err, is_err}
-use Rattle.dstm_cells.proofs.Spending.{begins_none, spent_at}
-use Rattle.dstm_cells.proofs.UnderWay.{adds_nothing, nothing_twice}
+use Rattle.dstm_cells.proofs.Spending.{renewed_nothing, same_attempts}
+use Rattle.dstm_cells.proofs.Waiting.{kept_nothing, stop_nothing}
 use Rattle.dstm_cells.proofs.thread.Part.atomically.Goals as goal
 use Rattle.dstm_cells.proofs.thread.Part.atomically.Goals.{in-Ok+else-commit, in-Err+in_ok-leave-in-Err}
 
@@ -30,11 +31,14 @@ pub returns-in_err-leave-in-Err-clause-nothing : goal.returns-in_err-leave-in-Er
 returns-in_err-leave-in-Err-clause-nothing g c keeps =
     let caller = g.X.Transaction.caller in
     let call = called_at g.F.FnMut c.loop-number.f c.f.new.self _ _ _ c.f.ensures in
+    let after = caller c.f.new.arg2 in
     if_err c.from_residual-in_err-leave-in-Err.result
     (nothing_twice (caller c.args.self.now.tx) (caller c.loop-number.self.tx) (caller c.leave.new.self)
     (c.loop-number.invariant.1 keeps).0
     (nothing_twice (caller c.loop-number.self.tx) (caller c.begin.new.self) (caller c.leave.new.self) c.begin.ensures.nothing
-    (adds_nothing (caller c.begin.new.self) (caller c.leave.new.self) (c.leave.ensures.keeps ∙ keeps _ _ _ _ _ call))))
+    (nothing_twice (caller c.begin.new.self) after (caller c.leave.new.self)
+    (adds_nothing (caller c.begin.new.self) after (keeps _ _ _ _ _ call))
+    (stop_nothing c.in-Err.stop.cause after (caller c.leave.new.self) c.leave.ensures.stays).0)))
 
 pub returns-in_err-leave-in-Err-clause-why : goal.returns-in_err-leave-in-Err-clause-why
 returns-in_err-leave-in-Err-clause-why g c keeps =
@@ -50,14 +54,25 @@ returns-in_err-leave-in-Err-clause-why g c keeps =
 pub returns-clause-why : goal.returns-clause-why
 returns-clause-why g c keeps =
     let caller = g.X.Transaction.caller in
+    let first = caller c.args.self.now.tx in
     let (nothing, begun) = c.loop-number.invariant.1 keeps in
     inl (
       refl,
       spent_at (caller c.loop-number.self.tx) c.attempts-number-end.result
-          (c.attempts-number-end.ensures ∙ ap (λ (k : Called _). (shape_of k).attempts) c.renew.ensures
-          ∙ sym (ap (λ (h : Home _). h.terms.shape.attempts) nothing.home))
+          (c.attempts-number-end.ensures ∙ ap (λ (k : Caller _). attempts_of k) c.renew.ensures ∙ same_attempts first _ (renewed_nothing first).home
+          ∙ sym (same_attempts first (caller c.loop-number.self.tx) nothing.home))
           (omega (arith, begun, c.loop-number-test.false)),
     )
+
+pub loop-number-init : goal.loop-number-init
+loop-number-init g c = (
+  search of_calls,
+  λ keeps. (
+    subst (λ (k : Caller _). AddsNothing (g.X.Transaction.caller c.args.self.now.tx) k) (sym c.renew.ensures)
+        (renewed_nothing (g.X.Transaction.caller c.args.self.now.tx)),
+    omega arith,
+  ),
+)
 
 pub loop-number-preserved : goal.loop-number-preserved
 loop-number-preserved g c = (
@@ -66,18 +81,26 @@ loop-number-preserved g c = (
       let caller = g.X.Transaction.caller in
       let call = called_at g.F.FnMut c.loop-number.f c.f.new.self _ _ _ c.f.ensures in
       let called = keeps _ _ _ _ _ call in
-      let (nothing, begun) = c.loop-number.invariant.1 keeps in
+      let (nothing, begun_so_far) = c.loop-number.invariant.1 keeps in
       let began =
       nothing_twice (caller c.args.self.now.tx) (caller c.loop-number.self.tx) (caller c.begin.new.self)
       nothing c.begin.ensures.nothing in
-      let same : attempt (caller c.match-f.self.tx) ≡ attempt (caller c.begin.new.self) =
+      let after = caller c.f.new.arg2 in
+      let left : AddsNothing after (caller c.match-f.self.tx) × (begun after ≤ begun (caller c.match-f.self.tx)) =
       elim c.match-f.branch [
-        | in-Ok+else-commit w ↦ ap (λ (p : Part _). attempt (caller p.tx)) w.self-is ∙ w.commit.ensures.keeps w.if-commit.false ∙ called
-        | in-Err+in_ok-leave-in-Err w ↦ ap (λ (p : Part _). attempt (caller p.tx)) w.self-is ∙ w.leave.ensures.keeps ∙ called
+        | in-Ok+else-commit w ↦
+            kept_nothing after (caller c.match-f.self.tx)
+            (ap (λ (p : Part _). attempt (caller p.tx)) w.self-is ∙ w.commit.ensures.keeps w.if-commit.false)
+        | in-Err+in_ok-leave-in-Err w ↦
+            stop_nothing w.in-Err.stop.cause after (caller c.match-f.self.tx)
+            (subst (λ (p : Part _). StaysFor w.in-Err.stop.cause after (caller p.tx)) (sym w.self-is) w.leave.ensures.stays)
       ] in
-      let one_more = begins_none (caller c.begin.new.self) (caller c.match-f.self.tx) same ∙ c.in_ok-begin.ensures.begins.begun in (
-        nothing_twice (caller c.args.self.now.tx) (caller c.begin.new.self) (caller c.match-f.self.tx) began
-            (adds_nothing (caller c.begin.new.self) (caller c.match-f.self.tx) same),
-        omega (arith, one_more, begun),
+      let same = begins_none (caller c.begin.new.self) after called in
+      let one_more = c.in_ok-begin.ensures.begins.begun in
+      let no_less = left.1 in (
+        nothing_twice (caller c.args.self.now.tx) after (caller c.match-f.self.tx)
+            (nothing_twice (caller c.args.self.now.tx) (caller c.begin.new.self) after began
+            (adds_nothing (caller c.begin.new.self) after called)) left.0,
+        omega (arith, one_more, begun_so_far, same, no_less),
       ),
 )

@@ -1,7 +1,6 @@
 use Rattle.std.proofs.Common.{◌≤◌}
-use Rattle.dstm_engine.specs.Callers.{state}
+use Rattle.dstm_attempts.specs.Attempts.{AddsNothing, begun}
 use Rattle.dstm_cells.specs.Closures.{KeepsEach}
-use Rattle.dstm_cells.specs.UnderWay.{AddsNothing}
 use Rattle.dstm_cells.proofs.thread.Part.atomically.Given as goal
 
 -- nothing was committed so far, and each call was on an attempt of its own
@@ -10,4 +9,4 @@ invariant-loop-number g l =
     goal.F-IsAlwaysCallable g l.f
     × (KeepsEach g.X.Transaction.caller g.F.FnMut →
     AddsNothing (g.X.Transaction.caller l.fn.self.tx) (g.X.Transaction.caller l.self.tx)
-    × (l._number ≤ (state (g.X.Transaction.caller l.self.tx)).begun))
+    × (l._number ≤ begun (g.X.Transaction.caller l.self.tx)))

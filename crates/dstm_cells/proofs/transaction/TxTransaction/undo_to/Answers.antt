@@ -7,10 +7,10 @@ use Rattle.dstm_cells.proofs.transaction.TxTransaction.undo_to.Goals as goal
 pub returns-in_err-put-clause-stops : goal.returns-in_err-put-clause-stops
 returns-in_err-put-clause-stops g c =
     is_err c.from_residual.result c.in_err-put.field-0.0
-    (StopsUndoing g.L.Law.holds c.args.self.now.caller c.put.new.self.caller) c.from_residual.ensures.1
+    (StopsUndoing g.L.Law.holds c.args.self.now.attempts.caller c.put.new.self.attempts.caller) c.from_residual.ensures.1
     (record {
       object = c.index-undo.result.now.object;
-      last = c.loop-self.self.caller;
+      last = c.loop-self.self.attempts.caller;
       keeps = c.loop-self.invariant.keeps;
       stops = c.in_err-put.ensures.stops;
     })

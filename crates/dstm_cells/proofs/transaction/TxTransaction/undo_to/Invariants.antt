@@ -7,7 +7,7 @@ use Rattle.dstm_cells.proofs.transaction.TxTransaction.undo_to.Given as goal
 -- it stays the same attempt, and what is left of what was noted is still to be set back
 abbrev pub invariant-loop-self : goal.invariant-loop-self
 invariant-loop-self g l = record {
-  keeps : Keeps l.fn.self.caller l.self.caller;
+  keeps : Keeps l.fn.self.attempts.caller l.self.attempts.caller;
   notes : settings (noting l.self) ≡ settings (noting l.fn.self);
   undoes : (first added : List Undo) → l.fn.self.undos.items ≡ first ++ added → length first ≡ l.kept →
       (left : List Undo) × Undoes g.L.Law.holds first added left (noting l.fn.self) (noting l.self);

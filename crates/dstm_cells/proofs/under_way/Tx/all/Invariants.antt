@@ -8,8 +8,8 @@ use Rattle.dstm_cells.proofs.under_way.Tx.all.Given as goal
 abbrev pub invariant-loop-object : goal.invariant-loop-object
 invariant-loop-object g l =
     (length l.values.items ≡ l.object)
-    × Keeps l.fn.self.caller l.self.caller
-    × IsUntouched l.self.caller
-    × ((map : List Val) × MayBegin g.L.Law.holds l.self.caller map)
-    × ((map : List Val) → MayBegin g.L.Law.holds l.self.caller map →
+    × Keeps l.fn.self.attempts.caller l.self.attempts.caller
+    × IsUntouched l.self.attempts.caller
+    × ((map : List Val) × MayBegin g.L.Law.holds l.self.attempts.caller map)
+    × ((map : List Val) → MayBegin g.L.Law.holds l.self.attempts.caller map →
     (o : ℕ) → o < l.object → value_at l.values.items o ≡ value_at map o)

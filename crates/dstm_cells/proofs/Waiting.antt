@@ -1,0 +1,105 @@
+-- What looks leave, and what follows a stop.
+use Rattle.std.proofs.Common.{◌+◌, ◌≤◌, ◌∙◌, ◌≡◌, ap, arith, refl, ℕ, List}
+use Rattle.dstm_model.specs.declared.value.Val.{Val}
+use Rattle.dstm_tables.specs.Callers.{home_of}
+use Rattle.dstm_tables.specs.declared.tables.Caller.{Caller}
+use Rattle.dstm_tables.specs.declared.tables.Caller.TheVariants.{Dstm, Tl2}
+use Rattle.dstm_tables.specs.declared.tables.Table.TheVariants as table
+use Rattle.dstm_attempts.specs.Attempts.{AddsNothing, Attempt, Keeps, LooksChanged, LooksSame, LooksSpent, attempt, begun, clock}
+use Rattle.dstm_attempts.proofs.UnderWay.{adds_nothing, begins_none, nothing_twice}
+use Rattle.dstm_cells.specs.Attempts.{StaysFor, StaysLooking, looked}
+use Rattle.dstm_cells.specs.declared.error.Cause.{Cause}
+use Rattle.dstm_cells.specs.declared.error.Cause.TheVariants.{Again, Retry, Foreign, Memory}
+
+module _ {L : Type 0} where
+  -- an attempt stays with its engine
+  apart : (k n : Caller L) → Keeps k n → home_of n ≡ home_of k
+  apart k n keeps = ap (λ (a : Attempt L). a.home) keeps
+
+  pub nothing_added : (k : Caller L) → AddsNothing k k
+  nothing_added k = record { home = refl; number = refl; done = refl }
+
+  -- before any look
+  pub stays_same : (k : Caller L) → StaysLooking k k
+  stays_same (Dstm k) = refl
+  stays_same (Tl2 k) = (nothing_added (Tl2 k), omega arith)
+
+  -- an attempt that stays, behind looks
+  pub stays_kept : (k m n : Caller L) → StaysLooking k m → Keeps m n → StaysLooking k n
+  stays_kept (Dstm k) (Dstm m) (Dstm n) stays keeps = keeps ∙ stays
+  stays_kept (Tl2 k) (Tl2 m) (Tl2 n) stays keeps =
+      let none = begins_none (Tl2 m) (Tl2 n) keeps in
+      let more = stays.1 in (
+        nothing_twice (Tl2 k) (Tl2 m) (Tl2 n) stays.0 (adds_nothing (Tl2 m) (Tl2 n) keeps),
+        omega (arith, none, more),
+      )
+  stays_kept (Dstm k) (Dstm m) (Tl2 n) stays keeps =
+      let home : table.Tl2 n.home ≡ table.Dstm m.home = apart (Dstm m) (Tl2 n) keeps in absurd (cc)
+  stays_kept (Tl2 k) (Tl2 m) (Dstm n) stays keeps =
+      let home : table.Dstm n.home ≡ table.Tl2 m.home = apart (Tl2 m) (Dstm n) keeps in absurd (cc)
+  stays_kept k m n stays keeps = absurd stays
+
+  -- a look that has found no change
+  pub looks_on : (first k n : Caller L) (since : ℕ) → StaysLooking first k → LooksSame since k n →
+      StaysLooking first n × (looked n ≡ looked k + 1)
+  looks_on (Dstm first) (Dstm k) (Dstm n) since stays look = (look.0 ∙ stays, look.1)
+  looks_on (Tl2 first) (Tl2 k) (Tl2 n) since stays look =
+      let one = look.1 in
+      let more = stays.1 in
+      ((nothing_twice (Tl2 first) (Tl2 k) (Tl2 n) stays.0 look.0, omega (arith, one, more)), one)
+  looks_on (Dstm first) (Dstm k) (Tl2 n) since stays look = absurd look
+  looks_on (Tl2 first) (Tl2 k) (Dstm n) since stays look = absurd look
+  looks_on first k n since stays look = absurd stays
+
+  -- and the clock then
+  pub still_at : (k n : Caller L) (since : ℕ) → since ≡ clock k → LooksSame since k n → clock n ≡ clock k
+  still_at (Dstm k) (Dstm n) since is look = refl
+  still_at (Tl2 k) (Tl2 n) since is look = look.2 ∙ is
+  still_at k n since is look = absurd look
+
+  -- a look that has found a change
+  pub changes_on : (holds : L → List Val → Type 0) (first k n : Caller L) (since : ℕ) → StaysLooking first k →
+      LooksChanged holds since k n → StaysLooking first n
+  changes_on holds (Dstm first) (Dstm k) (Dstm n) since stays look = look.0 ∙ stays
+  changes_on holds (Tl2 first) (Tl2 k) (Tl2 n) since stays look =
+      let one = look.1 in
+      let more = stays.1 in
+      (nothing_twice (Tl2 first) (Tl2 k) (Tl2 n) stays.0 look.0, omega (arith, one, more))
+  changes_on holds (Dstm first) (Dstm k) (Tl2 n) since stays look = absurd look
+  changes_on holds (Tl2 first) (Tl2 k) (Dstm n) since stays look = absurd look
+  changes_on holds first k n since stays look = absurd stays
+
+  -- a look by which no attempt was left
+  pub spends_on : (first k n : Caller L) → StaysLooking first k → LooksSpent k n → StaysLooking first n
+  spends_on (Tl2 first) (Tl2 k) (Tl2 n) stays look =
+      let none = look.1 in
+      let more = stays.1 in
+      (nothing_twice (Tl2 first) (Tl2 k) (Tl2 n) stays.0 look.0, omega (arith, none, more))
+  spends_on (Tl2 first) (Tl2 k) (Dstm n) stays look = absurd look
+  spends_on (Dstm first) (Dstm k) (Dstm n) stays look = absurd look
+  spends_on (Dstm first) (Dstm k) (Tl2 n) stays look = absurd look
+  spends_on first k n stays look = absurd stays
+
+  -- looking has committed nothing, and begun no less
+  pub stays_nothing : (k n : Caller L) → StaysLooking k n → AddsNothing k n × (begun k ≤ begun n)
+  stays_nothing (Dstm k) (Dstm n) stays =
+      let none = begins_none (Dstm k) (Dstm n) stays in (adds_nothing (Dstm k) (Dstm n) stays, omega (arith, none))
+  stays_nothing (Tl2 k) (Tl2 n) stays = stays
+  stays_nothing k n stays = absurd stays
+
+  pub kept_nothing : (k n : Caller L) → Keeps k n → AddsNothing k n × (begun k ≤ begun n)
+  kept_nothing k n keeps = let none = begins_none k n keeps in (adds_nothing k n keeps, omega (arith, none))
+
+  -- a stop has committed nothing, and begun no less
+  pub stop_nothing : (cause : Cause) (k n : Caller L) → StaysFor cause k n → AddsNothing k n × (begun k ≤ begun n)
+  stop_nothing Again k n stays = kept_nothing k n stays
+  stop_nothing Retry k n stays = stays_nothing k n stays
+  stop_nothing Foreign k n stays = kept_nothing k n stays
+  stop_nothing Memory k n stays = kept_nothing k n stays
+
+  -- an attempt that stays, behind a stop
+  pub stop_kept : (cause : Cause) (k m n : Caller L) → StaysFor cause k m → Keeps m n → StaysFor cause k n
+  stop_kept Again k m n stays keeps = keeps ∙ stays
+  stop_kept Retry k m n stays keeps = stays_kept k m n stays keeps
+  stop_kept Foreign k m n stays keeps = keeps ∙ stays
+  stop_kept Memory k m n stays keeps = keeps ∙ stays
