@@ -119,8 +119,8 @@ release_few {k = k} {n = n} attempt {o = o} p =
 
 -- ---- an attempt that begins
 
-pub begins_few : {L : Type 0} (holds : L → List Val → Type 0) (k b : Called L) → BeginsAnew holds k b → sights b ≤ looks b
-begins_few holds k b begins =
+pub begins_unsighted : {L : Type 0} (holds : L → List Val → Type 0) (k b : Called L) → BeginsAnew holds k b → sights b ≤ 0
+begins_unsighted holds k b begins =
     let p = begins.steps in
     let s = shape_of b in
     let c = b.number in
@@ -137,3 +137,6 @@ begins_few holds k b begins =
     ≤ count_of completes_pass s k.log c i + count_kinds is_look_self (events_of c p.seen.later)) p.seen.whole
     (sights_more s c i p.seen.later k.log) in
     omega arith
+
+pub begins_few : {L : Type 0} (holds : L → List Val → Type 0) (k b : Called L) → BeginsAnew holds k b → sights b ≤ looks b
+begins_few holds k b begins = let none = begins_unsighted holds k b begins in omega arith

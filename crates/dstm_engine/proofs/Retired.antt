@@ -33,6 +33,12 @@ leaving_done {k = k} steps =
     (subst (λ xs. events_of k.number xs ≡ steps.events ++ events_of k.number k.log) (sym steps.seen.whole) steps.own)
     (leaving_none (shape_of k) (state k) k.generator steps.events steps.call.obeys))
 
+-- the founder's log is a run of the table
+pub retired_run : {L : Type 0} {holds : L → List Val → Type 0} {v other w : View L} {terms : Terms L} →
+    Joined holds v other w → v.terms ≡ Some terms → IsRunOf holds terms w.log
+retired_run {L = L} {holds = holds} {w = w} joined is =
+    subst (λ (o : Option (Terms L)). IfSome o (λ (t : Terms L). IsRunOf holds t w.log)) is joined.run
+
 module _ {L : Type 0} {holds : L → List Val → Type 0} {v w : View L} {k quit : Called L}
     (steps : Performs holds Leaving k quit None) (joined : Joined holds v (seat_view quit) w) where
   one_of : Contains (quit.number ∷ []) k.number
@@ -42,8 +48,7 @@ module _ {L : Type 0} {holds : L → List Val → Type 0} {v w : View L} {k quit
   pub retired_done : v.terms ≡ Some k.home.terms →
       done_by (shape_of k) (start_of k) w.log w.log k.number ≡ done k
   retired_done terms =
-      let run : IsRunOf holds k.home.terms w.log =
-      subst (λ (o : Option (Terms L)). IfSome o (λ (t : Terms L). IsRunOf holds t w.log)) terms joined.run in
+      let run : IsRunOf holds k.home.terms w.log = retired_run joined terms in
       subst (λ xs. done_by (shape_of k) (start_of k) xs xs k.number
       ≡ done_by (shape_of k) (start_of k) quit.log quit.log k.number) joined.other_past.whole
       (told_stays (shape_of k) (start_of k) joined.other_past.later quit.log k.number

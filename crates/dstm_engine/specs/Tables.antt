@@ -6,7 +6,7 @@ use Rattle.dstm_core.specs.Traces.{events_of}
 use Rattle.dstm_order.specs.Tasks.Task.{Enrolling, Leaving}
 use Rattle.dstm_managers.specs.Choices.{started}
 use Rattle.dstm_words.specs.declared.terms.Terms.{Terms}
-use Rattle.dstm_words.specs.Seats.{View, Home, Joined, founder, kept_part}
+use Rattle.dstm_words.specs.Seats.{View, Home, IsRunOf, Joined, founder, kept_part}
 use Rattle.dstm_engine.specs.declared.error.EnrolError.{EnrolError}
 use Rattle.dstm_engine.specs.declared.error.EnrolError.TheVariants.{Full, Memory}
 use Rattle.dstm_opacity.specs.Committed.{done_by}
@@ -61,6 +61,7 @@ module _ {L : Type 0} where
       pub rest : is_live k ≡ false → quit ≡ k
       pub joined : Joined holds f.view (seat_view quit) g.view
       pub founder : g ≡ record f { view = g.view }
+      pub run : IsRunOf holds k.home.terms g.view.log
       pub done : done_by (shape_of k) (start_of k) g.view.log g.view.log k.number ≡ done k
 
 -- all callers and guests were made

@@ -1,7 +1,7 @@
 // All callers of a table at once.
 ghost use Rattle.std.specs.Prelude.{◌≡◌, ◌+◌, ◌<◌, ◌≤◌, All, IfOk, OnErr, length};
 ghost use Rattle.dstm_core.specs.Traces.{IsPastOf};
-ghost use Rattle.dstm_engine.specs.Companies.{AreNew, AreOut, IsNew, IsOfTable, IsSeenIn};
+ghost use Rattle.dstm_engine.specs.Companies.{AreNew, AreOut, IsNew, IsOfTable, IsRetiredIn, IsSeenIn};
 ghost use Rattle.dstm_engine.specs.Tables.{Retires};
 
 use crate::caller::Caller;
@@ -41,8 +41,8 @@ impl<L: Law> Founder<L> {
         Ok(callers)
     }
 
-    /// Retires callers, the last one first. All that they have seen, and so what they have committed, stands in the
-    /// founder's log.
+    /// Retires callers, the last one first. Each quits an attempt that it had dropped before its end, and does no more. All
+    /// that they have seen, and so what they have committed, stands in the founder's log.
     pub fn retire_all(&mut self, stm: &Stm<L>, callers: Vec<Caller<L>>)
         requires table { self.old.home ≡ stm.now }
         requires callers { All (IsOfTable stm.now) callers.items }
@@ -53,6 +53,7 @@ impl<L: Law> Founder<L> {
         ensures out { self.new.view.out + length callers.items ≡ self.old.view.out }
         ensures past { IsPastOf self.old.view.log self.new.view.log }
         ensures seen { All (IsSeenIn self.new.view.log) callers.items }
+        ensures retired { All (IsRetiredIn L.holds self.new.view.log) callers.items }
     {
         let mut callers = callers;
         while let Some(caller) = callers.pop() {

@@ -28,6 +28,15 @@ impl Counted for Brand {
     ghost looks = { 0 };
 }
 
+/// Of an attempt that has only begun.
+pub struct Begun;
+
+impl Counted for Begun {
+    ghost sights = { 0 };
+
+    ghost looks = { 0 };
+}
+
 /// Whether a body keeps its reads.
 pub trait TellsLetGo {
     ghost use Rattle.std.specs.Prelude.{ℕ};
@@ -207,14 +216,15 @@ fn run_counted<'a, L: Law, B: Body<L>, C: Counted>(
     body.run(&mut opener)
 }
 
-// And with a body that lets reads go.
-fn run_loosely<'a, L: Law, B: LooseBody<L>, C: Counted>(
+// And with a body that lets reads go: the attempt has had no sight since it was counted.
+pub(crate) fn run_loosely<'a, L: Law, B: LooseBody<L>, C: Counted>(
     tx: &mut Tx<'a, L>,
     body: &mut B,
 ) -> Result<(), Again>
     requires fresh { IsFresh ⟦<Tx<'a, L> as Mem>⟧ tx.old }
     requires lawful { (map : List Val) → Admits L.holds tx.old.caller.now map → L.holds (B.law body.old) map }
     requires few { sights tx.old.caller.now + C.looks ≤ looks tx.old.caller.now + C.sights }
+    requires begun { sights tx.old.caller.now ≤ C.sights }
 
     ensures lawful { OnOk result ((map : List Val) → Admits L.holds tx.new.caller.now map →
         L.holds (B.law body.new) (with_set map (written tx.new.caller.now))) }

@@ -3,7 +3,7 @@ use Rattle.dstm_words.specs.Seats.{Home, Joined, View}
 use Rattle.dstm_engine.specs.Callers.{seat_view}
 use Rattle.dstm_engine.specs.Tables.{Founding}
 use Rattle.dstm_engine.proofs.Enrolling.{keeps_rest}
-use Rattle.dstm_engine.proofs.Retired.{retired_done}
+use Rattle.dstm_engine.proofs.Retired.{retired_done, retired_run}
 use Rattle.dstm_engine.proofs.stm.Founder.retire.Goals as goal
 
 pub returns : goal.returns
@@ -22,6 +22,7 @@ returns g c =
         steps = c.leave.ensures.steps;
         rest = c.leave.ensures.rest;
         joined = joined;
+        run = retired_run joined terms;
         done = retired_done c.leave.ensures.steps joined terms;
         founder =
             keeps_rest _ c.self.inside.terms c.self.inside.seat.me.0 c.join.new.seat.me.0

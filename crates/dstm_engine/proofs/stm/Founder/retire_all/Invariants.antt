@@ -5,7 +5,7 @@ use Rattle.dstm_engine.specs.Companies.{IsOfTable}
 use Rattle.dstm_engine.proofs.Companies.{AreLeftOf}
 use Rattle.dstm_engine.proofs.stm.Founder.retire_all.Given as goal
 
--- those that are left are out, and what the others have seen is known
+-- those that are left are out, and the others were retired
 abbrev pub invariant-loop-caller : goal.invariant-loop-caller
 invariant-loop-caller g l = record {
   callers : All (IsOfTable l.fn.stm) l.callers.items;
@@ -13,7 +13,7 @@ invariant-loop-caller g l = record {
   guests : l.self.guests ≡ l.fn.self.guests;
   made : l.self.made ≡ l.fn.self.made;
   past : IsPastOf l.fn.self.view.log l.self.view.log;
-  seen : AreLeftOf l.self.view.log l.fn.callers.items l.callers.items;
+  gone : AreLeftOf g.L.Law.holds l.fn.stm l.self.view l.fn.callers.items l.callers.items;
   left : length l.callers.items ≤ l.self.view.out;
   out : l.self.view.out + length l.fn.callers.items ≡ l.fn.self.view.out + length l.callers.items;
 }
