@@ -1,6 +1,6 @@
 -- What a call on an attempt by DSTM leaves of it.
 use Rattle.std.proofs.Common.{◌≡◌, ◌∙◌, ◌∷◌, ◌<◌, ◌+◌, ◌≤◌, ℕ, Bool, List, ap, arith, false, inr, length, refl, subst, sym, true}
-use Rattle.std.specs.Prelude.{◌||◌, Some, nat_lt, not}
+use Rattle.std.specs.Prelude.{◌||◌, None, Some, nat_lt, not}
 use Rattle.std.proofs.lemmas.Bool.Decides.{nat_tests}
 use base.Fml.{GName}
 use Rattle.dstm_model.specs.Answers.{Committed}
@@ -9,11 +9,14 @@ use Rattle.dstm_core.specs.Runs.{local}
 use Rattle.dstm_words.specs.Seats.{Home}
 use Rattle.dstm_mem.specs.Memory.{SetsOnly, value_in, with_set}
 use Rattle.dstm_mem.proofs.WithSet.{value_at-opened, with_set-set}
+use Rattle.dstm_order.specs.Tasks.Task.{Leaving}
 use Rattle.dstm_order.specs.declared.again.Again.{Again}
+use Rattle.dstm_progress.proofs.Beginnings.{leaving}
 use Rattle.dstm_engine.proofs.BegunThere.{begun_there}
 use Rattle.dstm_engine.proofs.Made.{set_admits, settled}
 use Rattle.dstm_engine.specs.Attempts.{Settles, done}
-use Rattle.dstm_engine.specs.Callers.{Called, handed, held, is_live, shape_of, state, written}
+use Rattle.dstm_engine.specs.Callers.{Called, handed, held, is_live, is_running, shape_of, state, written}
+use Rattle.dstm_engine.specs.Calls.{Performs}
 use Rattle.dstm_engine.specs.Transactions.{BeginsAnew, Leaves, TxPlace}
 use Rattle.dstm_tables.specs.Callers.{begun}
 use Rattle.dstm_tables.specs.declared.tables.Caller.TheVariants.{Dstm}
@@ -21,7 +24,7 @@ use Rattle.dstm_tables.specs.declared.tables.Table.{Table}
 use Rattle.dstm_tables.specs.declared.tables.Table.TheVariants as table
 use Rattle.dstm_attempts.specs.Attempts.{AddsNothing, Attempt, Began, Finds, IsNotOpened, IsSpent, Keeps, MayBegin, Puts, SetsNothing, seen}
 use Rattle.dstm_attempts.specs.Attempts.Began.{ByDstm, ByTl2}
-use Rattle.dstm_attempts.specs.Dstm.{Beginning, TakesEffect, beginning, opening}
+use Rattle.dstm_attempts.specs.Dstm.{Beginning, IsQuit, TakesEffect, beginning, opening}
 use Rattle.dstm_attempts.specs.declared.error.NotOpened.TheVariants.{Over}
 
 abbrev beginning_in : Beginning → Began → Beginning
@@ -40,6 +43,21 @@ module _ {L : Type 0} where
       ∙ ap (λ (a : Attempt L).
       (local (home_in k.home a.home).terms.shape (beginning_in (beginning k) a.began).log a.number).begun) same
       ∙ sym (begun_there (shape_of k) k.number k.log)
+
+  -- a call that is to end an attempt leaves none live
+  pub quit : (holds : L → List Val → Type 0) (k n : Called L) → Performs holds Leaving k n None → IsQuit n
+  quit holds k n p =
+      let ended = leaving (shape_of k) k.number k.generator p.events k.log n.log (record {
+        core = p.run.run.core;
+        own = p.own;
+        call = p.call;
+      }) in
+      record {
+        over =
+            ap (λ (h : Home L). is_running (local h.terms.shape n.log n.number).phase) p.same.0
+            ∙ ap (λ c. is_running (local (shape_of k) n.log c).phase) p.same.1
+            ∙ ap is_running ended.0;
+      }
 
   -- one that has begun as many attempts as it has is spent
   pub spent_at : (k : Called L) (attempts : ℕ) → attempts ≡ (shape_of k).attempts → attempts ≤ (state k).begun →

@@ -95,6 +95,17 @@ module _ {L : Type 0} where
     pub number : number_of new ≡ number_of old
     pub done : done new ≡ done old
 
+  -- no step was made
+  abbrev pub IsStill : Caller L → Caller L → Type 0
+  IsStill (Dstm old) (Dstm new) = by_dstm.IsStill old new
+  IsStill (Tl2 old) (Tl2 new) = by_tl2.IsStill old new
+  IsStill old new = ⊥
+
+  -- its attempt is no other's enemy: by DSTM it is not live; by TL2 none ever is
+  abbrev pub IsQuit : Caller L → Type 0
+  IsQuit (Dstm k) = by_dstm.IsQuit k
+  IsQuit (Tl2 k) = Unit {0}
+
   -- the value that was last set for an object
   abbrev pub written : Caller L → ℕ → Option Val
   written (Dstm k) = dstm_callers.written k
@@ -148,6 +159,11 @@ module _ {L : Type 0} where
     abbrev pub LeavesLawful : Caller L → Type 0
     LeavesLawful k = (map : List Val) → MayBegin k map → holds (law_of k) (seen k map)
 
+    -- WHAT THE ATTEMPT HAS READ STOOD TOGETHER AT ONE MOMENT
+    abbrev pub StoodTogether : Caller L → Type 0
+    StoodTogether (Dstm k) = dstm.Sighted k
+    StoodTogether (Tl2 k) = by_tl2.StoodTogether holds k
+
     -- an attempt has begun, in the engine's words
     abbrev pub BeginsAnew : Caller L → Caller L → Type 0
     BeginsAnew (Dstm k) (Dstm n) = dstm_calls.BeginsAnew holds k n
@@ -161,6 +177,13 @@ module _ {L : Type 0} where
       pub begun : begun n ≡ begun k + 1
       pub may : (map : List Val) × MayBegin n map
       pub nothing : AddsNothing k n
+
+    -- AN OBJECT IS OPEN, for writing or for reading: it was before, and no step was made; or it was opened, once, and nothing
+    -- else was done
+    abbrev pub Opens : (writes : Bool) → ℕ → Caller L → Caller L → Type 0
+    Opens writes o (Dstm old) (Dstm new) = by_dstm.Opens holds (opening (dstm_callers.shape_of old) writes o) old new
+    Opens writes o (Tl2 old) (Tl2 new) = by_tl2.Opens holds writes o old new
+    Opens writes o old new = ⊥
 
     -- an object was found to have this value, and nothing was set
     pub record Finds (old new : Caller L) (o : ℕ) (v : Val) : Type 0 where

@@ -12,7 +12,7 @@ use Rattle.dstm_order.specs.declared.again.Again.{Again as Cause}
 use Rattle.dstm_engine.specs.Attempts.{Commits}
 use Rattle.dstm_engine.specs.Callers.{Called, begun_log, is_live, new_value, shape_of, state}
 use Rattle.dstm_engine.specs.Calls.{reading}
-use Rattle.dstm_engine.specs.Transactions.{Leaves}
+use Rattle.dstm_engine.specs.Transactions.{Leaves, Stays}
 
 -- an attempt as it began: the log, the generator, and whether an attempt after it is the first of a new transaction
 pub record Beginning : Type 0 where
@@ -29,6 +29,14 @@ module _ {L : Type 0} where
   abbrev pub beginning : Called L → Beginning
   beginning k = record { log = begun_log k.number k.log; generator = k.began; fresh = k.fresh }
 
+  -- no step was made: but for what is set, the caller is the same
+  abbrev pub IsStill : Called L → Called L → Type 0
+  IsStill old new = new ≡ record old { set = new.set }
+
+  -- no attempt is live
+  pub record IsQuit (k : Called L) : Type 0 where
+    pub over : is_live k ≡ false
+
   -- the caller has no attempt left, or no locator
   abbrev pub IsSpent : Called L → Type 0
   IsSpent k = is_spent (shape_of k) (state k) ≡ true
@@ -39,6 +47,10 @@ module _ {L : Type 0} where
       pub commits : Commits old new number
       pub home : new.home ≡ old.home
       pub run : IsRunOf holds old.home.terms new.log
+
+    -- AN OBJECT IS OPEN: it was before, and no step was made; or the steps are those of this work, done once
+    abbrev pub Opens : Work → Called L → Called L → Type 0
+    Opens work old new = IsStill old new ⊎ Stays holds work old new
 
     -- THE ATTEMPT IS OVER: it was before, and nothing was done; or this work has left it, for a cause of the engine
     abbrev pub IsOver : Work → Called L → Called L → Type 0

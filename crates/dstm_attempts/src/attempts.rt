@@ -1,7 +1,7 @@
 ghost use Rattle.std.specs.Prelude.{◌≡◌, ◌<◌, List, true, false, IfErr, IfOk, OnOk};
 ghost use Rattle.dstm_model.specs.declared.value.Val.{Val};
 ghost use Rattle.dstm_tables.specs.Callers.{begun, home_of};
-ghost use Rattle.dstm_attempts.specs.Attempts.{AddsNothing, Begins, Finds, Flags, IsClosed, IsLost, IsNotOpened, IsOpened, IsSpent, Keeps, LeavesLawful, LooksChanged, LooksSame, LooksSpent, MayBegin, Puts, Refuses, TakesEffect, attempts_of, clock, is_under_way, objects_of, renewed};
+ghost use Rattle.dstm_attempts.specs.Attempts.{AddsNothing, Begins, Finds, Flags, IsClosed, IsLost, IsNotOpened, IsOpened, IsQuit, IsSpent, IsStill, Keeps, LeavesLawful, LooksChanged, LooksSame, LooksSpent, MayBegin, Opens, Puts, Refuses, StoodTogether, TakesEffect, attempts_of, clock, is_under_way, objects_of, renewed};
 ghost use Rattle.dstm_attempts.specs.declared.error.Look.TheVariants as look;
 
 use crate::error::{Look, NotOpened, Spent};
@@ -128,6 +128,8 @@ impl<L: Law> Attempts<L> {
         ensures refuses { Refuses self.old.caller object result }
         ensures finds { IfOk result (Finds L.holds self.old.caller self.new.caller object) }
         ensures may { OnOk result ((map : List Val) × MayBegin L.holds self.new.caller map) }
+        ensures once { OnOk result (Opens L.holds false object self.old.caller self.new.caller) }
+        ensures together { OnOk result (StoodTogether L.holds self.new.caller) }
     {
         match &mut self.caller {
             Caller::Dstm(caller) => match table {
@@ -149,6 +151,8 @@ impl<L: Law> Attempts<L> {
         ensures refuses { Refuses self.old.caller object result }
         ensures finds { IfOk result (Finds L.holds self.old.caller self.new.caller object) }
         ensures may { OnOk result ((map : List Val) × MayBegin L.holds self.new.caller map) }
+        ensures once { OnOk result (Opens L.holds true object self.old.caller self.new.caller) }
+        ensures together { OnOk result (StoodTogether L.holds self.new.caller) }
         ensures going { OnOk result (self.new.going ≡ true) }
         ensures exists { OnOk result (object < objects_of self.new.caller) }
         ensures opened { OnOk result (IsOpened self.new.caller object) }
@@ -173,6 +177,7 @@ impl<L: Law> Attempts<L> {
         requires opened { IsOpened self.old.caller object }
         ensures keeps { Keeps self.old.caller self.new.caller }
         ensures puts { Puts L.holds self.old.caller self.new.caller object value }
+        ensures still { IsStill self.old.caller self.new.caller }
         ensures going { self.new.going ≡ true }
         ensures opened { IsOpened self.new.caller object }
     {
@@ -213,6 +218,7 @@ impl<L: Law> Attempts<L> {
     pub fn abandon(&mut self, table: &Table<L>)
         requires table { home_of self.old.caller ≡ table.now }
         ensures keeps { Keeps self.old.caller self.new.caller }
+        ensures quit { IsQuit self.new.caller }
     {
         match &mut self.caller {
             Caller::Dstm(caller) => match table {

@@ -4,7 +4,7 @@ ghost use Rattle.std.specs.Prelude.{◌≡◌, ◌<◌, ℕ, List, true, false, 
 ghost use Rattle.dstm_model.specs.declared.value.Val.{Val};
 ghost use Rattle.dstm_tables.specs.Callers.{begun};
 ghost use Rattle.dstm_tables.specs.declared.tables.Caller.TheVariants.{Dstm};
-ghost use Rattle.dstm_attempts.specs.Attempts.{AddsNothing, Begins, Finds, Flags, IsLost, IsNotOpened, IsOpened, IsSpent, Keeps, LeavesLawful, LooksChanged, LooksSame, MayBegin, Puts, Refuses, TakesEffect, objects_of};
+ghost use Rattle.dstm_attempts.specs.Attempts.{AddsNothing, Begins, Finds, Flags, IsLost, IsNotOpened, IsOpened, IsQuit, IsSpent, IsStill, Keeps, LeavesLawful, LooksChanged, LooksSame, MayBegin, Opens, Puts, Refuses, StoodTogether, TakesEffect, objects_of};
 ghost use Rattle.dstm_attempts.specs.declared.error.Look.TheVariants as look;
 
 use crate::error::{Look, NotOpened, Spent};
@@ -46,6 +46,8 @@ pub(crate) fn read<L: Law>(
     ensures refuses { Refuses (Dstm caller.old) object result }
     ensures finds { IfOk result (Finds L.holds (Dstm caller.old) (Dstm caller.new) object) }
     ensures may { OnOk result ((map : List Val) × MayBegin L.holds (Dstm caller.new) map) }
+    ensures once { OnOk result (Opens L.holds false object (Dstm caller.old) (Dstm caller.new)) }
+    ensures together { OnOk result (StoodTogether L.holds (Dstm caller.new)) }
     ensures flags { Flags going.new (Dstm caller.new) }
 {
     if !*going {
@@ -78,6 +80,8 @@ pub(crate) fn write<L: Law>(
     ensures refuses { Refuses (Dstm caller.old) object result }
     ensures finds { IfOk result (Finds L.holds (Dstm caller.old) (Dstm caller.new) object) }
     ensures may { OnOk result ((map : List Val) × MayBegin L.holds (Dstm caller.new) map) }
+    ensures once { OnOk result (Opens L.holds true object (Dstm caller.old) (Dstm caller.new)) }
+    ensures together { OnOk result (StoodTogether L.holds (Dstm caller.new)) }
     ensures flags { Flags going.new (Dstm caller.new) }
     ensures going { OnOk result (going.new ≡ true) }
     ensures exists { OnOk result (object < objects_of (Dstm caller.new)) }
@@ -107,6 +111,7 @@ pub(crate) fn set<L: Law>(caller: &mut Caller<L>, stm: &Stm<L>, object: u32, val
     requires opened { IsOpened (Dstm caller.old) object }
     ensures keeps { Keeps (Dstm caller.old) (Dstm caller.new) }
     ensures puts { Puts L.holds (Dstm caller.old) (Dstm caller.new) object value }
+    ensures still { IsStill (Dstm caller.old) (Dstm caller.new) }
     ensures opened { IsOpened (Dstm caller.new) object }
     ensures flags { Flags true (Dstm caller.new) }
 {
@@ -135,6 +140,8 @@ pub(crate) fn commit<L: Law>(caller: &mut Caller<L>, going: &mut bool, stm: &Stm
 pub(crate) fn abandon<L: Law>(caller: &mut Caller<L>, going: &mut bool, stm: &Stm<L>)
     requires table { caller.old.home ≡ stm.now }
     ensures keeps { Keeps (Dstm caller.old) (Dstm caller.new) }
+    ensures quit { IsQuit (Dstm caller.new) }
+    ensures going { going.new ≡ false }
     ensures flags { Flags going.new (Dstm caller.new) }
 {
     caller.resume(stm).abandon();

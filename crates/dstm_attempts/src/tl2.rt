@@ -6,7 +6,7 @@ ghost use Rattle.dstm_tl2_engine.specs.Callers.{is_live, state};
 ghost use Rattle.dstm_tl2_steps.specs.Reads.{AtRest};
 ghost use Rattle.dstm_tables.specs.Callers.{begun};
 ghost use Rattle.dstm_tables.specs.declared.tables.Caller.TheVariants.{Tl2};
-ghost use Rattle.dstm_attempts.specs.Attempts.{AddsNothing, Begins, Finds, Flags, IsLost, IsNotOpened, IsOpened, IsSpent, Keeps, LeavesLawful, LooksChanged, LooksSame, LooksSpent, MayBegin, Puts, Refuses, TakesEffect, is_under_way, objects_of};
+ghost use Rattle.dstm_attempts.specs.Attempts.{AddsNothing, Begins, Finds, Flags, IsLost, IsNotOpened, IsOpened, IsSpent, IsStill, Keeps, LeavesLawful, LooksChanged, LooksSame, LooksSpent, MayBegin, Opens, Puts, Refuses, StoodTogether, TakesEffect, is_under_way, objects_of};
 ghost use Rattle.dstm_attempts.specs.declared.error.Look.TheVariants as look;
 
 use crate::error::{Look, NotOpened, Spent};
@@ -48,6 +48,8 @@ pub(crate) fn read<L: Law>(
     ensures refuses { Refuses (Tl2 caller.old) object result }
     ensures finds { IfOk result (Finds L.holds (Tl2 caller.old) (Tl2 caller.new) object) }
     ensures may { OnOk result ((map : List Val) × MayBegin L.holds (Tl2 caller.new) map) }
+    ensures once { OnOk result (Opens L.holds false object (Tl2 caller.old) (Tl2 caller.new)) }
+    ensures together { OnOk result (StoodTogether L.holds (Tl2 caller.new)) }
     ensures flags { Flags going.new (Tl2 caller.new) }
 {
     may_open(caller, *going, stm, object)?;
@@ -75,6 +77,8 @@ pub(crate) fn write<L: Law>(
     ensures refuses { Refuses (Tl2 caller.old) object result }
     ensures finds { IfOk result (Finds L.holds (Tl2 caller.old) (Tl2 caller.new) object) }
     ensures may { OnOk result ((map : List Val) × MayBegin L.holds (Tl2 caller.new) map) }
+    ensures once { OnOk result (Opens L.holds true object (Tl2 caller.old) (Tl2 caller.new)) }
+    ensures together { OnOk result (StoodTogether L.holds (Tl2 caller.new)) }
     ensures flags { Flags going.new (Tl2 caller.new) }
     ensures going { OnOk result (going.new ≡ true) }
     ensures exists { OnOk result (object < objects_of (Tl2 caller.new)) }
@@ -99,6 +103,7 @@ pub(crate) fn set<L: Law>(caller: &mut TlCaller<L>, stm: &TlStm<L>, object: u32,
     requires opened { IsOpened (Tl2 caller.old) object }
     ensures keeps { Keeps (Tl2 caller.old) (Tl2 caller.new) }
     ensures puts { Puts L.holds (Tl2 caller.old) (Tl2 caller.new) object value }
+    ensures still { IsStill (Tl2 caller.old) (Tl2 caller.new) }
     ensures opened { IsOpened (Tl2 caller.new) object }
     ensures flags { Flags true (Tl2 caller.new) }
 {

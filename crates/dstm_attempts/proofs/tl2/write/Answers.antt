@@ -4,6 +4,7 @@ use Rattle.dstm_tl2_engine.specs.Callers.{TlCalled}
 use Rattle.dstm_tables.specs.declared.tables.Caller.TheVariants.{Tl2}
 use Rattle.dstm_attempts.specs.declared.error.NotOpened.TheVariants.{Over}
 use Rattle.dstm_attempts.specs.Attempts.{Finds, IsNotOpened, objects_of}
+use Rattle.dstm_attempts.specs.Tl2.{StoodTogether}
 use Rattle.dstm_attempts.proofs.ByTl2.{finds}
 use Rattle.dstm_attempts.proofs.ClosedByTl2.{not_opened_left}
 use Rattle.dstm_attempts.proofs.tl2.write.Goals as goal
@@ -32,3 +33,8 @@ returns-in-Err-clause-stops g c =
     (subst (λ (k : TlCalled _). IsNotOpened holds true c.args.object (Tl2 k) (Tl2 new) Over) c.resume-tx.ensures.attempt
     (not_opened_left holds true c.args.object k new c.in-Err.field-0 c.in-Err.ensures.leaves c.in-Err.ensures.live
     (ap (λ (n : TlCalled _). n.set) c.open_write.ensures.kept) c.open_write.ensures.narrows))
+
+pub returns-in-Ok-clause-together : goal.returns-in-Ok-clause-together
+returns-in-Ok-clause-together g c =
+    in_the_end (StoodTogether g.L.Law.holds) _ _ _ c.open_write.new.self.caller.now (assumption c)
+    (sym (c.open_write.ensures.reference ∙ c.resume-tx.ensures.same)) (record { seen = c.open_write.ensures.seen })
