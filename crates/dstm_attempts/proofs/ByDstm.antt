@@ -1,5 +1,5 @@
 -- What a call on an attempt by DSTM leaves of it.
-use Rattle.std.proofs.Common.{◌≡◌, ◌∙◌, ◌∷◌, ◌<◌, ◌+◌, ◌≤◌, ℕ, Bool, List, ap, arith, false, inr, length, refl, subst, sym, true}
+use Rattle.std.proofs.Common.{◌≡◌, ◌∙◌, ◌∷◌, ◌<◌, ◌+◌, ◌≤◌, ℕ, Bool, List, ap, arith, false, inl, inr, length, refl, subst, sym, true}
 use Rattle.std.specs.Prelude.{◌||◌, None, Some, nat_lt, not}
 use Rattle.std.proofs.lemmas.Bool.Decides.{nat_tests}
 use base.Fml.{GName}
@@ -9,22 +9,23 @@ use Rattle.dstm_core.specs.Runs.{local}
 use Rattle.dstm_words.specs.Seats.{Home}
 use Rattle.dstm_mem.specs.Memory.{SetsOnly, value_in, with_set}
 use Rattle.dstm_mem.proofs.WithSet.{value_at-opened, with_set-set}
+use Rattle.dstm_order.specs.Tasks.{Work}
 use Rattle.dstm_order.specs.Tasks.Task.{Leaving}
 use Rattle.dstm_order.specs.declared.again.Again.{Again}
 use Rattle.dstm_progress.proofs.Beginnings.{leaving}
 use Rattle.dstm_engine.proofs.BegunThere.{begun_there}
 use Rattle.dstm_engine.proofs.Made.{set_admits, settled}
-use Rattle.dstm_engine.specs.Attempts.{Settles, done}
+use Rattle.dstm_engine.specs.Attempts.{Settles, Sighted, done}
 use Rattle.dstm_engine.specs.Callers.{Called, handed, held, is_live, is_running, shape_of, state, written}
 use Rattle.dstm_engine.specs.Calls.{Performs}
-use Rattle.dstm_engine.specs.Transactions.{BeginsAnew, Leaves, TxPlace}
+use Rattle.dstm_engine.specs.Transactions.{BeginsAnew, Leaves, Stays, TxPlace}
 use Rattle.dstm_tables.specs.Callers.{begun}
 use Rattle.dstm_tables.specs.declared.tables.Caller.TheVariants.{Dstm}
 use Rattle.dstm_tables.specs.declared.tables.Table.{Table}
 use Rattle.dstm_tables.specs.declared.tables.Table.TheVariants as table
 use Rattle.dstm_attempts.specs.Attempts.{AddsNothing, Attempt, Began, Finds, IsNotOpened, IsSpent, Keeps, MayBegin, Puts, SetsNothing, seen}
 use Rattle.dstm_attempts.specs.Attempts.Began.{ByDstm, ByTl2}
-use Rattle.dstm_attempts.specs.Dstm.{Beginning, IsQuit, TakesEffect, beginning, opening}
+use Rattle.dstm_attempts.specs.Dstm.{Beginning, IsOver, IsQuit, IsStill, Opens, TakesEffect, beginning, opening}
 use Rattle.dstm_attempts.specs.declared.error.NotOpened.TheVariants.{Over}
 
 abbrev beginning_in : Beginning → Began → Beginning
@@ -104,6 +105,51 @@ module _ {L : Type 0} where
       narrows = λ map may. (set_admits holds k n kept map).0 may;
       puts = λ map. with_set-set map (written k) (written n) o v sets;
     }
+
+    -- an attempt that is over is not live
+    pub over_quit : (work : Work) (k n : Called L) → IsOver holds work k n → IsQuit n
+    over_quit work k n (inl (over, same)) = record { over = ap is_live same ∙ over }
+    over_quit work k n (inr (cause, leaves)) = record { over = leaves.left.over }
+
+    -- ---- a set makes no step
+
+    -- an object that was opened was opened, where another thing was set then
+    pub opens_still : (work : Work) (k m n : Called L) → Opens holds work k m → IsStill m n → Opens holds work k n
+    opens_still work k m n (inl same) still = inl (still ∙ ap (λ (x : Called L). record x { set = n.set }) same)
+    opens_still work k m n (inr stays) still =
+        inr (subst (Stays holds work k) (sym still) (record {
+          steps = record {
+            events = stays.steps.events;
+            own = stays.steps.own;
+            call = stays.steps.call;
+            answers = stays.steps.answers;
+            seen = stays.steps.seen;
+            run = stays.steps.run;
+            generator = stays.steps.generator;
+            same = stays.steps.same;
+          };
+          missed = stays.missed;
+        }))
+
+    -- what it has read still stood together
+    pub stood_still : (m n : Called L) → IsStill m n → Sighted m → Sighted n
+    stood_still m n still s =
+        subst Sighted (sym still) (record {
+          later = s.later;
+          sight = s.sight;
+          before = s.before;
+          log = s.log;
+          is_one = s.is_one;
+          caller = s.caller;
+          attempt = s.attempt;
+          newest = s.newest;
+          covers = s.covers;
+        })
+
+    -- and it may have begun at the same values
+    pub may_still : (m n : Called L) → IsStill m n → (map : List Val) → MayBegin holds (Dstm m) map →
+        MayBegin holds (Dstm n) map
+    may_still m n still map may = (set_admits holds m n still map).1 may
 
     -- which attempt it is, in the engine's words
     abbrev place_of : GName → Home L → Called L → Attempt L → TxPlace L

@@ -1,6 +1,6 @@
 -- What a call on an attempt by TL2 leaves of it.
-use Rattle.std.proofs.Common.{◌≡◌, ◌∙◌, ◌∷◌, ◌<◌, ◌≤◌, ℕ, List, ap, arith, false, length, refl, subst, sym, true}
-use Rattle.std.specs.Prelude.{None, Some, nat_lt, not}
+use Rattle.std.proofs.Common.{◌≡◌, ◌∙◌, ◌∷◌, ◌⊎◌, ◌<◌, ◌≤◌, ℕ, List, ap, arith, false, inl, inr, length, refl, subst, sym, true}
+use Rattle.std.specs.Prelude.{IsTrue, None, Some, nat_lt, not}
 use Rattle.std.proofs.lemmas.Bool.Decides.{nat_tests}
 use base.Fml.{GName}
 use Rattle.dstm_model.specs.Answers.{Committed}
@@ -11,9 +11,10 @@ use Rattle.dstm_tl2.specs.Rules.{Event}
 use Rattle.dstm_tl2.specs.Runs.{local}
 use Rattle.dstm_tl2.specs.Sharing.{table_of}
 use Rattle.dstm_tl2_words.specs.Seats.{Home}
+use Rattle.dstm_tl2_order.specs.Tasks.Work.{Opening}
 use Rattle.dstm_tl2_engine.specs.Attempts.{Settles, done}
 use Rattle.dstm_tl2_engine.specs.Callers.{TlCalled, begun_log, handed, held, objects_of, state, table_of_caller, written}
-use Rattle.dstm_tl2_engine.specs.Transactions.{BeginsAnew, TxPlace}
+use Rattle.dstm_tl2_engine.specs.Transactions.{BeginsAnew, Stays, TxPlace}
 use Rattle.dstm_tl2_engine.proofs.Begun.{begun_count}
 use Rattle.dstm_tl2_engine.proofs.Made.{set_admits, settled}
 use Rattle.dstm_tables.specs.Callers.{begun}
@@ -22,7 +23,7 @@ use Rattle.dstm_tables.specs.declared.tables.Table.{Table}
 use Rattle.dstm_tables.specs.declared.tables.Table.TheVariants as table
 use Rattle.dstm_attempts.specs.Attempts.{AddsNothing, Attempt, Began, Finds, IsSpent, Keeps, MayBegin, Puts, SetsNothing, seen}
 use Rattle.dstm_attempts.specs.Attempts.Began.{ByDstm, ByTl2}
-use Rattle.dstm_attempts.specs.Tl2.{TakesEffect}
+use Rattle.dstm_attempts.specs.Tl2.{IsStill, Opens, StoodTogether, TakesEffect}
 
 abbrev log_in : List Event → Began → List Event
 log_in other (ByDstm b) = other
@@ -77,6 +78,45 @@ module _ {L : Type 0} where
       narrows = λ map may. (set_admits holds k {n = n} kept map).0 may;
       puts = λ map. with_set-set map (written k) (written n) o v sets;
     }
+
+    -- ---- a set makes no step
+
+    -- an object that was opened for writing was opened, where another thing was set then
+    pub opens_still : (o : ℕ) (k m n : TlCalled L) → Opens holds true o k m → IsStill m n → Opens holds true o k n
+    opens_still o k m n (opens, marks) still = (
+      at_end opens,
+      record {
+        kept = λ p was. subst IsTrue (sym (still.opened p)) (marks.kept p was);
+        others = λ p other. still.opened p ∙ marks.others p other;
+      },
+    )
+      where
+        at_end : ((m ≡ record k { writes = m.writes; set = m.set }) ⊎ Stays holds (Opening o) k m) →
+            (n ≡ record k { writes = n.writes; set = n.set }) ⊎ Stays holds (Opening o) k n
+        at_end (inl same) =
+            inl (still.same ∙ ap (λ (x : TlCalled L). record x { writes = n.writes; set = n.set }) same)
+        at_end (inr stays) =
+            inr (subst (Stays holds (Opening o) k) (sym still.same) (record {
+              steps = record {
+                events = stays.steps.events;
+                own = stays.steps.own;
+                call = stays.steps.call;
+                answers = stays.steps.answers;
+                seen = stays.steps.seen;
+                run = stays.steps.run;
+                same = stays.steps.same;
+              };
+              attempt = stays.attempt;
+            }))
+
+    -- what it has read still stood together
+    pub stood_still : (m n : TlCalled L) → IsStill m n → StoodTogether holds m → StoodTogether holds n
+    stood_still m n still stood = subst (StoodTogether holds) (sym still.same) (record { seen = stood.seen })
+
+    -- and it may have begun at the same values
+    pub may_still : (m n : TlCalled L) → IsStill m n → (map : List Val) → MayBegin holds (Tl2 m) map →
+        MayBegin holds (Tl2 n) map
+    may_still m n still map may = (set_admits holds m {n = n} still.same map).1 may
 
     -- which attempt it is, in the engine's words
     abbrev place_of : GName → Home L → TlCalled L → Attempt L → TxPlace L

@@ -1,14 +1,16 @@
 -- What a caller has added, and what an open and a set leave of an attempt, by either engine.
-use Rattle.std.proofs.Common.{◌≡◌, ◌≤◌, ◌<◌, ◌∙◌, ℕ, List, ap, arith, length, refl, slice_set, subst, sym}
+use Rattle.std.proofs.Common.{◌≡◌, ◌≤◌, ◌<◌, ◌∙◌, ℕ, List, ap, arith, length, refl, slice_set, true, subst, sym}
 use Rattle.std.proofs.lemmas.List.{ext_get_or}
 use Rattle.dstm_model.specs.declared.value.Val.{Val}
 use Rattle.dstm_model.specs.Map.{no_value, value_at}
+use Rattle.dstm_order.specs.Tasks.Work.{Committing, Writing}
+use Rattle.dstm_engine.specs.Callers.{new_value}
 use Rattle.dstm_tables.specs.Callers.{begun, home_of, law_of}
 use Rattle.dstm_tables.specs.Tables.{law_there, objects_there}
 use Rattle.dstm_tables.specs.declared.tables.Caller.{Caller}
 use Rattle.dstm_tables.specs.declared.tables.Caller.TheVariants.{Dstm, Tl2}
 use Rattle.dstm_tables.specs.declared.tables.Table.TheVariants as table
-use Rattle.dstm_attempts.specs.Attempts.{AddsNothing, Attempt, Exchanges, Finds, IsSpent, Keeps, MayBegin, Puts, SetsNothing, attempts_of, objects_of}
+use Rattle.dstm_attempts.specs.Attempts.{AddsNothing, Attempt, Exchanges, Finds, IsLost, IsQuit, IsSpent, IsStill, Keeps, MayBegin, Opens, Puts, SetsNothing, StoodTogether, TakesEffect, attempts_of, objects_of, renewed}
 use Rattle.dstm_attempts.proofs.ByDstm as by_dstm
 use Rattle.dstm_attempts.proofs.ByTl2 as by_tl2
 
@@ -63,6 +65,11 @@ module _ {L : Type 0} where
   spent_at (Dstm k) attempts all begun = by_dstm.spent_at k attempts all begun
   spent_at (Tl2 k) attempts all begun = by_tl2.spent_at k attempts all begun
 
+  -- the first attempt of a new transaction is still to begin
+  pub renewed_quit : (k : Caller L) → IsQuit k → IsQuit (renewed k)
+  renewed_quit (Dstm k) quit = record { over = quit.over }
+  renewed_quit (Tl2 k) quit = tt
+
   module _ (holds : L → List Val → Type 0) where
     -- values at which an attempt may have begun are so many, and lawful
     pub may_length : (k : Caller L) (map : List Val) → MayBegin holds k map → length map ≡ objects_of k
@@ -88,6 +95,42 @@ module _ {L : Type 0} where
         puts = λ map. put.puts map ∙ ap (λ (xs : List Val). slice_set xs o v) (found.same map);
       };
     }
+
+    -- an object was opened for writing, and then set: it was opened once, what was read stood together, and the attempt may
+    -- have begun at the same values
+    pub opens_still : (o : ℕ) (k m n : Caller L) → Opens holds true o k m → IsStill m n → Opens holds true o k n
+    opens_still o (Dstm k) (Dstm m) (Dstm n) opens still = by_dstm.opens_still holds (Writing o) k m n opens still
+    opens_still o (Tl2 k) (Tl2 m) (Tl2 n) opens still = by_tl2.opens_still holds o k m n opens still
+    opens_still o (Dstm k) (Tl2 m) n opens still = absurd opens
+    opens_still o (Tl2 k) (Dstm m) n opens still = absurd opens
+    opens_still o k (Dstm m) (Tl2 n) opens still = absurd still
+    opens_still o k (Tl2 m) (Dstm n) opens still = absurd still
+
+    pub stood_still : (m n : Caller L) → IsStill m n → StoodTogether holds m → StoodTogether holds n
+    stood_still (Dstm m) (Dstm n) still stood = by_dstm.stood_still holds m n still stood
+    stood_still (Tl2 m) (Tl2 n) still stood = by_tl2.stood_still holds m n still stood
+    stood_still (Dstm m) (Tl2 n) still stood = absurd still
+    stood_still (Tl2 m) (Dstm n) still stood = absurd still
+
+    pub may_still : (m n : Caller L) → IsStill m n → (map : List Val) → MayBegin holds m map → MayBegin holds n map
+    may_still (Dstm m) (Dstm n) still map may = by_dstm.may_still holds m n still map may
+    may_still (Tl2 m) (Tl2 n) still map may = by_tl2.may_still holds m n still map may
+    may_still (Dstm m) (Tl2 n) still map may = absurd still
+    may_still (Tl2 m) (Dstm n) still map may = absurd still
+
+    -- a commit that did not take effect leaves no attempt that is live
+    pub lost_quit : (k n : Caller L) → IsLost holds k n → IsQuit n
+    lost_quit (Dstm k) (Dstm n) lost = by_dstm.over_quit holds (Committing (new_value k)) k n lost
+    lost_quit (Tl2 k) (Tl2 n) lost = tt
+    lost_quit (Dstm k) (Tl2 n) lost = absurd lost
+    lost_quit (Tl2 k) (Dstm n) lost = absurd lost
+
+    -- and neither does one that has
+    pub takes_quit : (k n : Caller L) → TakesEffect holds k n → IsQuit n
+    takes_quit (Dstm k) (Dstm n) taken = record { over = taken.takes.commits.over }
+    takes_quit (Tl2 k) (Tl2 n) taken = tt
+    takes_quit (Dstm k) (Tl2 n) taken = absurd taken.takes
+    takes_quit (Tl2 k) (Dstm n) taken = absurd taken.takes
 
     -- values that are those of a map at which the attempt may have begun, for each object, are this map
     pub all_values : (k n : Caller L) (values map : List Val) (o objects : ℕ) → Keeps k n → objects ≡ objects_of k →

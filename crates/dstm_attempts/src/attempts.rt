@@ -106,6 +106,7 @@ impl<L: Law> Attempts<L> {
         ensures begins { OnOk result (Begins L.holds self.old.caller self.new.caller) }
         ensures spent { IfErr result (λ _. IsSpent self.new.caller) }
         ensures none { IfErr result (λ _. begun self.new.caller ≡ begun self.old.caller) }
+        ensures quit { IfErr result (λ _. IsQuit self.new.caller) }
         ensures nothing { AddsNothing self.old.caller self.new.caller }
     {
         match &mut self.caller {

@@ -21,6 +21,7 @@ pub(crate) fn begin<L: Law>(
     ensures begins { OnOk result (Begins L.holds (Dstm caller.old) (Dstm caller.new)) }
     ensures spent { IfErr result (λ _. IsSpent (Dstm caller.new)) }
     ensures none { IfErr result (λ _. begun (Dstm caller.new) ≡ begun (Dstm caller.old)) }
+    ensures quit { IfErr result (λ _. IsQuit (Dstm caller.new)) }
     ensures nothing { AddsNothing (Dstm caller.old) (Dstm caller.new) }
     ensures flags { Flags going.new (Dstm caller.new) }
 {

@@ -6,7 +6,7 @@ ghost use Rattle.dstm_tl2_engine.specs.Callers.{is_live, state};
 ghost use Rattle.dstm_tl2_steps.specs.Reads.{AtRest};
 ghost use Rattle.dstm_tables.specs.Callers.{begun};
 ghost use Rattle.dstm_tables.specs.declared.tables.Caller.TheVariants.{Tl2};
-ghost use Rattle.dstm_attempts.specs.Attempts.{AddsNothing, Begins, Finds, Flags, IsLost, IsNotOpened, IsOpened, IsSpent, IsStill, Keeps, LeavesLawful, LooksChanged, LooksSame, LooksSpent, MayBegin, Opens, Puts, Refuses, StoodTogether, TakesEffect, is_under_way, objects_of};
+ghost use Rattle.dstm_attempts.specs.Attempts.{AddsNothing, Begins, Finds, Flags, IsLost, IsNotOpened, IsOpened, IsQuit, IsSpent, IsStill, Keeps, LeavesLawful, LooksChanged, LooksSame, LooksSpent, MayBegin, Opens, Puts, Refuses, StoodTogether, TakesEffect, is_under_way, objects_of};
 ghost use Rattle.dstm_attempts.specs.declared.error.Look.TheVariants as look;
 
 use crate::error::{Look, NotOpened, Spent};
@@ -23,6 +23,7 @@ pub(crate) fn begin<L: Law>(
     ensures begins { OnOk result (Begins L.holds (Tl2 caller.old) (Tl2 caller.new)) }
     ensures spent { IfErr result (λ _. IsSpent (Tl2 caller.new)) }
     ensures none { IfErr result (λ _. begun (Tl2 caller.new) ≡ begun (Tl2 caller.old)) }
+    ensures quit { IfErr result (λ _. IsQuit (Tl2 caller.new)) }
     ensures nothing { AddsNothing (Tl2 caller.old) (Tl2 caller.new) }
     ensures flags { Flags going.new (Tl2 caller.new) }
 {
