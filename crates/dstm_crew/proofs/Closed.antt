@@ -8,12 +8,12 @@ use Rattle.dstm_model.specs.declared.value.Val.{Val}
 use Rattle.dstm_model.specs.Objects.{objects_of}
 use Rattle.dstm_workload.specs.declared.workload.Workload.{Workload}
 use Rattle.dstm_options.specs.declared.options.Options.{Options}
-use Rattle.dstm_jobs.specs.declared.founding.Founder.{Founder}
-use Rattle.dstm_jobs.specs.declared.tables.Table.{Table}
-use Rattle.dstm_jobs.specs.Founders.{first_of, numbers_of, seen_by}
-use Rattle.dstm_jobs.specs.Tells as known
-use Rattle.dstm_jobs.specs.Tells.{IsOf, IsPast, callers_of, layout_of, start_of, values_of}
-use Rattle.dstm_jobs.proofs.Same.{callers_past, first_seen, layout_past, of_past, start_past}
+use Rattle.dstm_jobs.specs.Tables.{Founder, IsOf, Table, layout_of}
+use Rattle.dstm_tables.specs.Founders.{first_of, numbers_of, seen_by}
+use Rattle.dstm_jobs.specs.Tables as known
+use Rattle.dstm_tables.specs.Tells.{IsPast, callers_of, start_of, values_of}
+use Rattle.dstm_tables.proofs.Same.{callers_past, first_seen, start_past}
+use Rattle.dstm_jobs.proofs.Same.{layout_past, of_past}
 use Rattle.dstm_records.specs.Records.{IsDstmMade, IsMade}
 use Rattle.dstm_records.specs.Rounds.{attempts_for, is_parallel, locators_for}
 use Rattle.dstm_records.proofs.Making.{made_past}

@@ -11,18 +11,17 @@ use Rattle.dstm_report.specs.declared.report.Row.{Row}
 use Rattle.dstm_report.specs.Lawful.{store_after}
 use Rattle.dstm_report.specs.Turns.{Turning}
 use Rattle.dstm_options.specs.declared.options.Options.{Options}
-use Rattle.dstm_jobs.specs.declared.founding.Founder.{Founder}
-use Rattle.dstm_jobs.specs.declared.tables.Caller.{Caller}
-use Rattle.dstm_jobs.specs.declared.tables.Table.{Table}
-use Rattle.dstm_jobs.specs.Callers.{CameByCalls, begun, done, let_go, number_of, round_of}
-use Rattle.dstm_jobs.proofs.Calls.{by_calls, calls_at_close, came_on}
-use Rattle.dstm_jobs.specs.Founders.{TakesBack, first_of, seen_by}
-use Rattle.dstm_jobs.specs.Tells as known
-use Rattle.dstm_jobs.specs.Tells.{ByCalls, IsPast, IsSpent, all_done, begun_of, callers_of, committed_of, done_of, let_go_by, start_of, values_of}
-use Rattle.dstm_jobs.proofs.Closing.{done_at_close, let_go_at_close, spent_at_close}
-use Rattle.dstm_jobs.proofs.History.{sights_agree}
-use Rattle.dstm_jobs.proofs.Staying.{attempts_past}
-use Rattle.dstm_jobs.proofs.Same.{callers_past, first_past, first_seen, layout_is, layout_past, locators_past, number_below, of_past, only_tells_all, start_past, writes_past}
+use Rattle.dstm_jobs.specs.Tables.{Caller, Founder, Table}
+use Rattle.dstm_tables.specs.Callers.{CameByCalls, begun, done, let_go, number_of, round_of}
+use Rattle.dstm_tables.proofs.Calls.{by_calls, calls_at_close, came_on}
+use Rattle.dstm_tables.specs.Founders.{TakesBack, first_of, seen_by}
+use Rattle.dstm_jobs.specs.Tables as known
+use Rattle.dstm_tables.specs.Tells.{ByCalls, IsPast, IsSpent, all_done, begun_of, callers_of, committed_of, done_of, let_go_by, start_of, values_of}
+use Rattle.dstm_tables.proofs.Closing.{done_at_close, let_go_at_close, spent_at_close}
+use Rattle.dstm_tables.proofs.History.{sights_agree}
+use Rattle.dstm_tables.proofs.Staying.{attempts_past}
+use Rattle.dstm_tables.proofs.Same.{callers_past, first_past, first_seen, locators_past, number_below, only_tells_all, start_past, writes_past}
+use Rattle.dstm_jobs.proofs.Same.{layout_is, layout_past, of_past}
 use Rattle.dstm_records.specs.Records.{IsAlone, IsMade, IsRoundOf, IsRun, KeepsReads, TellOf, seed_for}
 use Rattle.dstm_records.specs.Rounds.{is_parallel, most_jobs, workers_left}
 use Rattle.dstm_records.specs.Running.{AddsRound, Begins, count_left, turns_behind}
@@ -33,6 +32,7 @@ use Rattle.dstm_records.proofs.Making.{made_past}
 use Rattle.dstm_records.proofs.Told.{fewer_left, rows_told}
 use Rattle.dstm_crew.specs.Alone.{CanRunAlone, HasRunAlone}
 use Rattle.dstm_crew.specs.Opened.{IsOpened, with_jobs}
+use Rattle.dstm_jobs.specs.Law.{keeps}
 
 -- in an alone round one caller runs a job of each worker that has jobs left
 pub most_alone : (workload : Workload) (number : ℕ) (before : List Row) → is_parallel number ≡ false →
@@ -134,9 +134,9 @@ module _ (workload : Workload) (options : Options) (number : ℕ) (before : List
   -- what was committed on the table is what its caller has committed
   committed : all_done (seen_by g) ≡ done n
   committed =
-      only_tells_all (seen_by g) run only
+      only_tells_all keeps (seen_by g) run only
       ∙ ap (done_of (seen_by g)) (sym zeroth)
-      ∙ done_at_close (round_of n) (seen_by g) (number_of n) run takes.other_past takes.other_kept
+      ∙ done_at_close keeps (round_of n) (seen_by g) (number_of n) run takes.other_past takes.other_kept
 
   are_told : AreTold workload before ran.now (committed_of (seen_by g))
   are_told = subst (λ (ds : List Committed). AreTold workload before ran.now (reverse ds)) (sym committed) ran.goes.told
@@ -212,7 +212,7 @@ module _ (workload : Workload) (options : Options) (number : ℕ) (before : List
     good = collected.good;
     all_in = ran.goes.in_round;
     round = round;
-    sights = sights_agree (seen_by g) run;
+    sights = sights_agree keeps (seen_by g) run;
     values_are = is;
     stands = subst (λ (vs : List Val). StandsFor workload.layout vs (store_after workload (before ++ ran.now)))
         (sym is) collected.stands;

@@ -6,21 +6,22 @@ use Rattle.dstm_model.specs.Answers.{Committed}
 use Rattle.dstm_workload.specs.declared.workload.Workload.{Workload}
 use Rattle.dstm_report.specs.Turns.{job_at}
 use Rattle.dstm_options.specs.declared.options.Options.{Options}
-use Rattle.dstm_jobs.specs.declared.tables.Round.{Round}
-use Rattle.dstm_jobs.specs.declared.tables.Table.{Table}
+use Rattle.dstm_jobs.specs.Tables.{IsRun, Round, Table}
 use Rattle.dstm_jobs.specs.Answers.{KeepsFew}
-use Rattle.dstm_jobs.specs.Callers.{let_go, number_of, round_of}
-use Rattle.dstm_jobs.specs.Tells.{ByCalls, IsPast, IsRun, SameOwn, done_of}
-use Rattle.dstm_jobs.proofs.Calls.{by_calls, calls_at_close, came_on}
-use Rattle.dstm_jobs.proofs.Closing.{done_at_close, let_go_at_close, none_at_close, stop_at_close}
-use Rattle.dstm_jobs.proofs.Same.{callers_past, number_below}
-use Rattle.dstm_jobs.proofs.Staying.{lets_go_past}
+use Rattle.dstm_tables.specs.Callers.{let_go, number_of, round_of}
+use Rattle.dstm_tables.specs.Tells.{ByCalls, IsPast, SameOwn, done_of}
+use Rattle.dstm_tables.proofs.Calls.{by_calls, calls_at_close, came_on}
+use Rattle.dstm_tables.proofs.Closing.{done_at_close, let_go_at_close}
+use Rattle.dstm_jobs.proofs.Closing.{none_at_close, stop_at_close}
+use Rattle.dstm_tables.proofs.Same.{callers_past, number_below}
+use Rattle.dstm_tables.proofs.Staying.{lets_go_past}
 use Rattle.dstm_records.specs.Records.{KeepsReads, seed_for}
 use Rattle.dstm_crew.specs.declared.share.Share.{Share}
 use Rattle.dstm_crew.specs.declared.worker.Worker.{Worker}
 use Rattle.dstm_crew.specs.Seats.{HasCome, HasEnded, IsKnownBy, caller_number, share_of}
 use Rattle.dstm_crew.specs.Shares.{AreShared, IsShared, asked_of}
 use Rattle.dstm_crew.specs.Workers.{AreDone, HasRun, IsReady, next_job}
+use Rattle.dstm_jobs.specs.Law.{keeps}
 
 module _ (workload : Workload) (options : Options) where
   -- ---- as its own caller's log tells
@@ -67,7 +68,7 @@ module _ (workload : Workload) (options : Options) where
   }
     where
       same : done_of new c ≡ done_of old c
-      same = done_at_close old new c run past own
+      same = done_at_close keeps old new c run past own
 
   is_shared : {table : Table} {r : Round} {worker : Worker} → IsRun r → HasEnded workload options table worker →
       IsKnownBy r worker.caller → IsShared workload options r (share_of worker) (caller_number worker)

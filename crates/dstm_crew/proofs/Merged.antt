@@ -11,30 +11,30 @@ use Rattle.std.proofs.lemmas.Option.{get_or_from_slice_get, slice_get_within, sl
 use mathlib.Core.List.{reverse-cons}
 use Rattle.dstm_model.specs.declared.reply.Reply.{Reply}
 use Rattle.dstm_model.specs.Answers.{Committed, by_caller}
-use Rattle.dstm_jobs.specs.declared.tables.Round.{Round}
+use Rattle.dstm_jobs.specs.Tables.{Round}
 use Rattle.dstm_workload.specs.declared.workload.Job.{Job}
 use Rattle.dstm_workload.specs.declared.workload.Workload.{Workload}
 use Rattle.dstm_report.specs.declared.report.Row.{Row}
 use Rattle.dstm_report.specs.Lawful.{first_job, jobs_left}
 use Rattle.dstm_report.specs.Turns.{Turning, job_at, jobs_of, without_first}
 use Rattle.dstm_options.specs.declared.options.Options.{Options}
-use Rattle.dstm_jobs.specs.Answers.{IsAnsweredBy}
+use Rattle.dstm_jobs.specs.Answers.{IsAnsweredBy, IsDone, KeepsFew}
 use Rattle.dstm_records.specs.Records.{IsReleasing, KeepsFewReads}
-use Rattle.dstm_jobs.specs.Answers.{KeepsFew, IsDone}
 use Rattle.dstm_records.specs.Rounds.{has_job, left_by}
 use Rattle.dstm_records.specs.Told.{AreTold, IsTold}
 use Rattle.dstm_records.proofs.Told.{AreTold-push, Rise, rise_of, turn_names}
 use Rattle.dstm_jobs.specs.declared.trying.Finished.{Finished}
 use Rattle.dstm_crew.specs.Workers.{AreDone, next_job}
 use Rattle.dstm_crew.specs.declared.share.Share.{Share}
-use Rattle.dstm_jobs.specs.Tells.{lets_go, all_done, callers_of, committed_of, done_of}
-use Rattle.dstm_jobs.proofs.History.{is_history}
+use Rattle.dstm_tables.specs.Tells.{lets_go, all_done, callers_of, committed_of, done_of}
+use Rattle.dstm_tables.proofs.History.{is_history}
 use Rattle.dstm_crew.specs.Collecting.{AreRunBy, AreTaken, CanCollect, HasCollected, IsFit, IsNext, IsRowOf, caller_of, head, number_at}
 use Rattle.dstm_crew.specs.Shares.{AreShared, IsShared}
 use Rattle.dstm_crew.proofs.Going.{Comes, Going, at_end, at_place, comes, drop_at, each_place, finished_at, found, get_drop, going_first, going_more, heads_at, same_line, same_turn, workers_apart}
 use Rattle.dstm_crew.proofs.Jobs.{first_of_jobs, has_some}
 use Rattle.dstm_crew.proofs.Merge.{AllMatch, Match, merge_ends, merge_step}
 use Rattle.dstm_crew.proofs.Numbers.{all_there, apart_places}
+use Rattle.dstm_jobs.specs.Law.{keeps}
 
 -- ---- the transactions of a table are its callers'
 
@@ -249,7 +249,7 @@ module _ (workload : Workload) (options : Options) (r : Round) where
       ours = tt;
       in_round = tt;
       rise = rise_of (all_done r)
-          ((is_history r run.run).falls);
+          ((is_history keeps r run.run).falls);
       matched = λ k below. matches k (slice_get-some shares k below);
     }
       where
@@ -260,7 +260,7 @@ module _ (workload : Workload) (options : Options) (r : Round) where
             let is = shared_at workload options r shares callers k share run.shared at.1 in
             let mine : by_caller (caller_there k) (committed_of r)
             ≡ reverse (done_of r (caller_there k)) = by_caller-reverse (caller_there k) (all_done r)
-            ∙ ap reverse ((is_history r run.run).parts (caller_there k)) in
+            ∙ ap reverse ((is_history keeps r run.run).parts (caller_there k)) in
             subst (λ (n : ℕ). Match Does (drop n (pairs_at shares k)) (by_caller (caller_there k) (committed_of r)))
             (sym (zeros k))
             (subst (λ (ps : List (ℕ × Finished)). Match Does ps (by_caller (caller_there k) (committed_of r)))
@@ -278,7 +278,7 @@ module _ (workload : Workload) (options : Options) (r : Round) where
         (shared_below workload options r shares callers run.shared) run.count
         (all-middle (λ (d : Committed). d.caller < callers_of r) m.done x xs
         (subst (AllByRecursion (λ (d : Committed). d.caller < callers_of r)) (m.all_are ∙ ap (λ (l : List Committed). m.done ++ l) is)
-        (all-reverse (λ (d : Committed). d.caller < callers_of r) (all_done r) ((is_history r run.run).within))))
+        (all-reverse (λ (d : Committed). d.caller < callers_of r) (all_done r) ((is_history keeps r run.run).within))))
 
     -- the row of the share whose next number is the least tells of the next transaction
     pub merged_more : {round : ℕ} {before rows : List Row} {turns : Turning} {next : List ℕ} {at : ℕ} {share : Share}

@@ -9,7 +9,7 @@ use Rattle.dstm_report.specs.declared.report.Row.{Row}
 use Rattle.dstm_report.specs.Turns.{Turning}
 use Rattle.dstm_report.proofs.Rising.{jobs_left-none}
 use Rattle.dstm_options.specs.declared.options.Options.{Options}
-use Rattle.dstm_jobs.specs.declared.tables.Round.{Round}
+use Rattle.dstm_jobs.specs.Tables.{Round}
 use Rattle.dstm_records.specs.Running.{added, turns_behind}
 use Rattle.dstm_records.specs.Records.{AreFirstRounds, AreRoundsOf}
 use Rattle.dstm_store.specs.Opening.{opening_values}

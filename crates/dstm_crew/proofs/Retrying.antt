@@ -6,13 +6,13 @@ use Rattle.dstm_model.specs.Answers.{Committed}
 use Rattle.dstm_workload.specs.declared.workload.Job.{Job}
 use Rattle.dstm_jobs.specs.declared.style.Style.{Style}
 use Rattle.dstm_jobs.specs.declared.trying.Finished.{Finished}
-use Rattle.dstm_jobs.specs.declared.tables.Caller.{Caller}
-use Rattle.dstm_jobs.specs.Callers.{AtRest, begun, done, round_of}
-use Rattle.dstm_jobs.specs.Jobs.{DidJob, StoodAt, WasNotWasted}
+use Rattle.dstm_jobs.specs.Tables.{AtRest, Caller, GoesOn, IsSpentFrom, OneMore, WasKept}
+use Rattle.dstm_tables.specs.Callers.{begun, done, round_of}
+use Rattle.dstm_jobs.specs.Jobs.{DidJob, StoodAt}
+use Rattle.dstm_tables.specs.Tries.{WasNotWasted}
 use Rattle.dstm_crew.specs.Tries.{HasDone, HasNoneLeft, NoneWastedSince, StaysBlocked}
-use Rattle.dstm_jobs.specs.Tells.{attempts_of}
-use Rattle.dstm_jobs.specs.Tries.{GoesOn, IsSpentFrom, OneMore, WasKept}
-use Rattle.dstm_jobs.proofs.Staying.{few_begun, goes_on, same_attempts, was_later}
+use Rattle.dstm_tables.specs.Tells.{attempts_of}
+use Rattle.dstm_tables.proofs.Staying.{few_begun, goes_on, same_attempts, was_later}
 
 -- after attempts that others kept from their commit
 pub record Waited (k n : Caller) : Type 0 where

@@ -5,13 +5,11 @@ use Rattle.std.proofs.lemmas.List.{map_push}
 use Rattle.std.proofs.lemmas.List.Elements.{All-cons, All-head, All-nil, All-push, All-tail}
 use Rattle.dstm_words.specs.Seats.{AreApart}
 use Rattle.dstm_workload.specs.declared.workload.Workload.{Workload}
-use Rattle.dstm_jobs.specs.declared.founding.Founder.{Founder}
-use Rattle.dstm_jobs.specs.declared.tables.Caller.{Caller}
-use Rattle.dstm_jobs.specs.declared.tables.Table.{Table}
-use Rattle.dstm_jobs.specs.Callers.{CameByCalls, round_of}
-use Rattle.dstm_jobs.specs.Founders.{GivesOut, first_of, made_of, seen_by}
-use Rattle.dstm_jobs.specs.Tells.{layout_of}
-use Rattle.dstm_jobs.proofs.Same.{first_past, layout_is, layout_past}
+use Rattle.dstm_jobs.specs.Tables.{Caller, Founder, GivesOut, Table, layout_of}
+use Rattle.dstm_tables.specs.Callers.{CameByCalls, round_of}
+use Rattle.dstm_tables.specs.Founders.{first_of, made_of, seen_by}
+use Rattle.dstm_tables.proofs.Same.{first_past}
+use Rattle.dstm_jobs.proofs.Same.{layout_is, layout_past}
 use Rattle.dstm_options.specs.declared.options.Options.{Options}
 use Rattle.dstm_records.specs.Records.{seed_for}
 use Rattle.dstm_crew.specs.declared.share.Share.{Share}

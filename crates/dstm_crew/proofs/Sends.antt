@@ -2,7 +2,7 @@
 use denote.Param.Send.{IsSend, sendable}
 use denote.Param.SendFields.{declared_send}
 use Rattle.std.proofs.Crossing.{crosses}
-use Rattle.dstm_jobs.proofs.Sends.{caller_send}
+use Rattle.dstm_tables.proofs.Sends.{caller_send}
 use Rattle.dstm_jobs.proofs.trying.Finished.TheSendSync as Finished
 use Rattle.dstm_crew.specs.contracts.worker.Worker as Worker
 

@@ -15,11 +15,11 @@ use Rattle.dstm_report.specs.declared.report.Row.{Row}
 use Rattle.dstm_report.specs.Lawful.{first_job, store_after}
 use Rattle.dstm_report.specs.Turns.{Turning, job_at, jobs_of}
 use Rattle.dstm_options.specs.declared.options.Options.{Options}
-use Rattle.dstm_jobs.specs.declared.tables.Round.{Round}
+use Rattle.dstm_jobs.specs.Tables.{Round}
 use Rattle.dstm_jobs.specs.declared.trying.Finished.{Finished}
 use Rattle.dstm_jobs.specs.Jobs.{HadToStop, NoneWasted}
-use Rattle.dstm_jobs.specs.Tells.{ByCalls, callers_of, committed_of, start_of}
-use Rattle.dstm_jobs.proofs.History.{sights_agree}
+use Rattle.dstm_tables.specs.Tells.{ByCalls, callers_of, committed_of, start_of}
+use Rattle.dstm_tables.proofs.History.{sights_agree}
 use Rattle.dstm_records.specs.Records.{ArePaired, IsMade, IsParallel, IsRoundOf, TellOf, next_of, seed_for}
 use Rattle.dstm_records.specs.Rounds.{all_workers, greatest, has_job, is_parallel, left_by, most_jobs, workers_in, workers_left}
 use Rattle.dstm_records.specs.Running.{AddsRound, Begins, turns_behind}
@@ -36,6 +36,7 @@ use Rattle.dstm_crew.proofs.Going.{at_place, each_place, workers_apart}
 use Rattle.dstm_crew.proofs.Merged.{caller_at, shared_at, shared_size}
 use Rattle.dstm_crew.proofs.Numbers.{apart_places}
 use Rattle.dstm_crew.proofs.Workers.{are_workers, most_of_all, workers_apart_all}
+use Rattle.dstm_jobs.specs.Law.{keeps}
 
 -- ---- the shares behind the round are those before it
 
@@ -261,7 +262,7 @@ module _ (workload : Workload) (options : Options) (number : ℕ) (rows : List R
       good = told.good;
       all_in = collected.in_round;
       round = stands_for;
-      sights = sights_agree closed run.run.run;
+      sights = sights_agree keeps closed run.run.run;
       values_are = run.left_is;
       stands = subst (λ (vs : List Val). StandsFor workload.layout vs (store_after workload (rows ++ collected.now))) (sym run.left_is)
           told.stands;

@@ -25,25 +25,23 @@ use Rattle.dstm_report.proofs.Rising.{all_blocked, each-filter, first_holds, ris
 use Rattle.dstm_records.specs.Records.{WasAsked, count_done, is_blocked, is_given_up, most_tries}
 use Rattle.dstm_records.specs.Rounds.{attempts_for, has_job, is_parallel, left_by, workers_left}
 use Rattle.std.proofs.lemmas.Option.{none-some}
-use Rattle.dstm_jobs.specs.Answers.{IsAnsweredBy, entries_of}
-use Rattle.dstm_jobs.proofs.Entries.{entries_push}
-use Rattle.dstm_jobs.proofs.History.{is_history}
+use Rattle.dstm_jobs.specs.Answers.{IsAnsweredBy}
+use Rattle.dstm_tables.specs.Tells.{CannotBegin, IsSpent, all_done, attempts_of, callers_of, committed_of, done_of, entries_of, start_of, used_by}
+use Rattle.dstm_tables.proofs.Entries.{entries_push}
+use Rattle.dstm_tables.proofs.History.{is_history}
 use Rattle.dstm_model.specs.Map.{Agrees, IsLegal}
 use Rattle.dstm_records.specs.Told.{AreTold, IsGivenUp, IsTold}
 use Rattle.dstm_records.proofs.Collecting.{Collected}
 use Rattle.dstm_records.proofs.Follows.{agrees_next, answers_there}
 use Rattle.dstm_records.proofs.Replies.{not_given_up}
 use Rattle.dstm_records.proofs.Told.{AreTold-push, rows_told}
-use Rattle.dstm_jobs.specs.declared.tables.Caller.{Caller}
-use Rattle.dstm_jobs.specs.declared.tables.Table.{Table}
-use Rattle.dstm_jobs.specs.Callers.{AtRest, done, number_of, round_of}
-use Rattle.dstm_jobs.specs.Callers as callers
+use Rattle.dstm_jobs.specs.Tables.{AtRest, Caller, GoesOn, IsSpentFrom, Table}
+use Rattle.dstm_tables.specs.Callers.{done, number_of, round_of}
+use Rattle.dstm_tables.specs.Callers as callers
 use Rattle.dstm_jobs.specs.Jobs.{DidJob}
 use Rattle.dstm_jobs.specs.OnlyCallers.{HasGivenUp, StoodAlone, left_by as values_left}
-use Rattle.dstm_jobs.specs.Tells.{CannotBegin, IsSpent, all_done, attempts_of, callers_of, committed_of, done_of, start_of, used_by}
-use Rattle.dstm_jobs.specs.Tries.{GoesOn, IsSpentFrom}
-use Rattle.dstm_jobs.proofs.Staying.{goes_nowhere, goes_on, same_attempts}
-use Rattle.dstm_jobs.proofs.Same.{callers_same, can_begin, law_same, locators_same, number_below, only_tells_all, start_same, writes_same}
+use Rattle.dstm_tables.proofs.Staying.{goes_nowhere, goes_on, same_attempts}
+use Rattle.dstm_tables.proofs.Same.{callers_same, can_begin, law_same, locators_same, number_below, only_tells_all, start_same, writes_same}
 use Rattle.dstm_jobs.specs.declared.style.Style.{Style}
 use Rattle.dstm_jobs.specs.declared.style.Style.TheVariants.{Branches, Loose, Plain}
 use Rattle.dstm_jobs.specs.Styles.{style_of}
@@ -53,6 +51,7 @@ use Rattle.dstm_crew.specs.declared.sweeping.Swept.{Swept}
 use Rattle.dstm_crew.specs.declared.sweeping.Swept.TheVariants as swept
 use Rattle.dstm_records.specs.Running.{turns_behind}
 use Rattle.dstm_crew.proofs.Asking.{asked_blocked, asked_more, blocked_now, has_first, keeps_job, row_done, so_far_blocked, so_far_grows, so_far_row, tries_are_few}
+use Rattle.dstm_jobs.specs.Law.{keeps}
 
 -- ---- how many jobs of a worker were done
 
@@ -89,7 +88,7 @@ number_zero {k = k} rest only = let below = number_below k rest in omega (arith,
 
 pub told_committed : {k : Caller} → AtRest k → callers_of (round_of k) ≡ 1 → all_done (round_of k) ≡ done k
 told_committed {k = k} rest only =
-    only_tells_all (round_of k) rest.run only ∙ ap (done_of (round_of k)) (sym (number_zero rest only))
+    only_tells_all keeps (round_of k) rest.run only ∙ ap (done_of (round_of k)) (sym (number_zero rest only))
 
 module _ {workload : Workload} {number : ℕ} {table : Table} {first : Caller} {before : List Row}
     {begun : Turning} (can : CanRunAlone workload number table first before begun) where
@@ -330,7 +329,7 @@ module _ {workload : Workload} {number : ℕ} {table : Table} {first : Caller} {
       ∙ ap entries_of (reverse-cons by (done k)) ∙ entries_push (reverse (done k)) by in
       agrees_next (start_of (round_of k)) (entries_of (reverse (done k))) by.entry []
       (subst (λ (vs : List Val). IsLegal vs (entries_of (reverse (done k)) ++ by.entry ∷ [])) (start_same k n on)
-      (subst (IsLegal (start_of (round_of n))) is (is_history (round_of n) on.rest.run).legal))
+      (subst (IsLegal (start_of (round_of n))) is (is_history keeps (round_of n) on.rest.run).legal))
 
   -- the job of the worker was done
   pub step_done : {style : Style} {k n : Caller} {rows : List Row} {turns behind : Turning} {w : ℕ}

@@ -3,13 +3,11 @@ use Rattle.std.proofs.Common.{◌≡◌, ◌∙◌, ◌+◌, ◌-◌, ◌++◌, 
 use Rattle.std.specs.Prelude.{All, Contains}
 use Rattle.std.proofs.lemmas.List.{map_push}
 use Rattle.std.proofs.lemmas.List.Elements.{All-cons, All-head, All-nil, All-push, All-tail, All-weaker, Contains-append_right}
-use Rattle.dstm_jobs.specs.declared.founding.Founder.{Founder}
-use Rattle.dstm_jobs.specs.declared.tables.Round.{Round}
-use Rattle.dstm_jobs.specs.declared.tables.Table.{Table}
-use Rattle.dstm_jobs.specs.Callers.{number_of, round_of}
-use Rattle.dstm_jobs.specs.Founders.{TakesBack, numbers_of, seen_by}
-use Rattle.dstm_jobs.specs.Tells.{IsPast, SameOwn}
-use Rattle.dstm_jobs.proofs.Staying.{own_trans, past_trans}
+use Rattle.dstm_jobs.specs.Tables.{Founder, Round, Table}
+use Rattle.dstm_tables.specs.Callers.{number_of, round_of}
+use Rattle.dstm_tables.specs.Founders.{TakesBack, numbers_of, seen_by}
+use Rattle.dstm_tables.specs.Tells.{IsPast, SameOwn}
+use Rattle.dstm_tables.proofs.Staying.{own_trans, past_trans}
 use Rattle.dstm_crew.specs.declared.worker.Worker.{Worker}
 use Rattle.dstm_crew.specs.Seats.{HasBack, IsKnownBy, RestsAt, caller_number}
 

@@ -20,18 +20,18 @@ use Rattle.dstm_options.specs.declared.options.Engine.TheVariants as engines
 use Rattle.dstm_options.specs.declared.options.Options.{Options}
 use Rattle.dstm_jobs.specs.declared.style.Style.{Style}
 use Rattle.dstm_jobs.specs.declared.style.Style.TheVariants.{Plain, Loose, Branches}
-use Rattle.dstm_jobs.specs.declared.tables.Caller.{Caller}
+use Rattle.dstm_jobs.specs.Tables.{AtRest, Caller, GoesOn}
 use Rattle.dstm_jobs.specs.declared.trying.Finished.{Finished}
 use Rattle.dstm_jobs.specs.declared.trying.Left.{Left}
 use Rattle.dstm_jobs.specs.declared.trying.Left.TheVariants as left
 use Rattle.dstm_jobs.specs.Answers.{IsDone, KeepsFew}
-use Rattle.dstm_jobs.specs.Callers as attempts
-use Rattle.dstm_jobs.specs.Callers.{AtRest, begun, done, number_of, round_of}
-use Rattle.dstm_jobs.specs.Jobs.{StoodBlocked, Waited, WasNotWasted}
+use Rattle.dstm_tables.specs.Callers as attempts
+use Rattle.dstm_tables.specs.Callers.{begun, done, number_of, round_of}
+use Rattle.dstm_jobs.specs.Jobs.{StoodBlocked, Waited}
+use Rattle.dstm_tables.specs.Tries.{WasNotWasted}
 use Rattle.dstm_jobs.specs.Styles.{CanTry, style_of}
-use Rattle.dstm_jobs.specs.Tells.{HasCommitted, WasDisturbed, lets_go}
-use Rattle.dstm_jobs.specs.Tries.{GoesOn}
-use Rattle.dstm_jobs.proofs.Staying.{goes_nowhere, goes_on, same_lets_go}
+use Rattle.dstm_tables.specs.Tells.{HasCommitted, WasDisturbed, lets_go}
+use Rattle.dstm_tables.proofs.Staying.{goes_nowhere, goes_on, same_lets_go}
 use Rattle.dstm_records.specs.Records.{IsReleasing, KeepsReads}
 use Rattle.dstm_crew.specs.declared.worker.Worker.{Worker}
 use Rattle.dstm_crew.specs.Releases.{is_dstm, releases}

@@ -2,10 +2,9 @@
 use Rattle.std.specs.Prelude.{◌≡◌, ◌⊎◌, ℕ, ◌+◌, ◌-◌, ◌<◌, ◌≤◌, Bool, true, false, List, [], ◌∷◌, ◌++◌, length, filter, reverse, None, IfSome, All}
 use Rattle.std.specs.List.{range_with_len}
 use Rattle.dstm_model.specs.Job.{apply_job}
-use Rattle.dstm_jobs.specs.declared.tables.Caller.{Caller}
-use Rattle.dstm_jobs.specs.declared.tables.Table.{Table}
-use Rattle.dstm_jobs.specs.Callers.{AtRest, begun, done, home_of, law_of, number_of, round_of}
-use Rattle.dstm_jobs.specs.Tells.{HasLocators, IsSpent, attempts_of, callers_of, start_of, used_by, writes_all}
+use Rattle.dstm_jobs.specs.Tables.{AtRest, Caller, GoesOn, Table}
+use Rattle.dstm_tables.specs.Callers.{begun, done, home_of, law_of, number_of, round_of}
+use Rattle.dstm_tables.specs.Tells.{HasLocators, IsSpent, attempts_of, callers_of, start_of, used_by, writes_all}
 use Rattle.dstm_store.specs.Whole.{StandsFor}
 use Rattle.dstm_workload.specs.declared.workload.Job.{Job}
 use Rattle.dstm_workload.specs.declared.workload.Workload.{Workload}
@@ -17,7 +16,6 @@ use Rattle.dstm_records.specs.Records.{WasAsked, count_done, is_blocked, most_tr
 use Rattle.dstm_records.specs.Rounds.{attempts_for, has_job, is_parallel, left_by, workers_left}
 use Rattle.dstm_records.specs.Running.{turns_behind}
 use Rattle.dstm_records.specs.Told.{AreTold}
-use Rattle.dstm_jobs.specs.Tries.{GoesOn}
 use Rattle.dstm_crew.specs.declared.sweeping.Swept.{Swept}
 use Rattle.dstm_crew.specs.declared.sweeping.Swept.TheVariants as swept
 

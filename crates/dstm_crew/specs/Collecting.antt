@@ -2,7 +2,7 @@
 use Rattle.std.specs.Prelude.{◌≡◌, ℕ, ◌<◌, ◌≤◌, ◌==◌, nat_le, if◌then◌else◌, List, [], ◌∷◌, ◌++◌, length, map, zip, true, All, Option, Some, None, IfSome, slice_index, slice_index_or}
 use Rattle.std.specs.List.{slice_get}
 use Rattle.std.specs.Option.{option_map}
-use Rattle.dstm_jobs.specs.declared.tables.Round.{Round}
+use Rattle.dstm_jobs.specs.Tables.{IsRun, Round}
 use Rattle.dstm_words.specs.Seats.{AreApart}
 use Rattle.dstm_workload.specs.declared.workload.Workload.{Workload}
 use Rattle.dstm_workload.specs.Workload.{IsValidWorkload}
@@ -11,7 +11,7 @@ use Rattle.dstm_report.specs.Lawful.{first_job}
 use Rattle.dstm_report.specs.Turns.{Turning, job_at, jobs_of}
 use Rattle.dstm_options.specs.declared.options.Options.{Options}
 use Rattle.dstm_records.specs.Records.{IsReleasing, KeepsFewReads}
-use Rattle.dstm_jobs.specs.Tells.{IsRun, callers_of, committed_of, lets_go}
+use Rattle.dstm_tables.specs.Tells.{callers_of, committed_of, lets_go}
 use Rattle.dstm_records.specs.Rounds.{has_job, left_by}
 use Rattle.dstm_records.specs.Running.{turns_behind}
 use Rattle.dstm_records.specs.Told.{AreTold}

@@ -5,12 +5,10 @@ use Rattle.dstm_model.specs.declared.value.Val.{Val}
 use Rattle.dstm_workload.specs.declared.workload.Job.{Job}
 use Rattle.dstm_workload.specs.declared.workload.Workload.{Workload}
 use Rattle.dstm_options.specs.declared.options.Options.{Options}
-use Rattle.dstm_jobs.specs.declared.founding.Founder.{Founder}
-use Rattle.dstm_jobs.specs.declared.tables.Caller.{Caller}
-use Rattle.dstm_jobs.specs.declared.tables.Table.{Table}
-use Rattle.dstm_jobs.specs.Callers.{AtRest, begun, done, home_of, let_go, number_of, round_of}
-use Rattle.dstm_jobs.specs.Founders.{first_of, guests_of, home_there, out_of}
-use Rattle.dstm_jobs.specs.Tells.{HasLocators, IsOf, attempts_of, callers_of, layout_of, start_of, used_by, writes_all}
+use Rattle.dstm_jobs.specs.Tables.{AtRest, Caller, Founder, IsOf, Table, layout_of}
+use Rattle.dstm_tables.specs.Callers.{begun, done, home_of, let_go, number_of, round_of}
+use Rattle.dstm_tables.specs.Founders.{first_of, guests_of, home_there, out_of}
+use Rattle.dstm_tables.specs.Tells.{HasLocators, attempts_of, callers_of, start_of, used_by, writes_all}
 use Rattle.dstm_records.specs.Records.{IsMade}
 use Rattle.dstm_records.specs.Rounds.{attempts_for, has_job, is_parallel}
 

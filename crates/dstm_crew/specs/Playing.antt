@@ -4,7 +4,7 @@ use Rattle.dstm_workload.specs.declared.workload.Workload.{Workload}
 use Rattle.dstm_report.specs.declared.report.Row.{Row}
 use Rattle.dstm_report.specs.Lawful.{RowsAreGood}
 use Rattle.dstm_options.specs.declared.options.Options.{Options}
-use Rattle.dstm_jobs.specs.declared.tables.Round.{Round}
+use Rattle.dstm_jobs.specs.Tables.{Round}
 use Rattle.dstm_records.specs.Records.{AreRoundsOf}
 use Rattle.dstm_records.specs.Running.{AddsRound, Begins, turns_behind}
 use Rattle.dstm_crew.specs.declared.progress.Progress.{Progress}

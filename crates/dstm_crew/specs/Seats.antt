@@ -4,13 +4,10 @@ use Rattle.std.specs.Prelude.{◌≡◌, ℕ, List, [], map, All}
 use Rattle.dstm_words.specs.Seats.{AreApart}
 use Rattle.dstm_workload.specs.declared.workload.Workload.{Workload}
 use Rattle.dstm_options.specs.declared.options.Options.{Options}
-use Rattle.dstm_jobs.specs.declared.founding.Founder.{Founder}
-use Rattle.dstm_jobs.specs.declared.tables.Caller.{Caller}
-use Rattle.dstm_jobs.specs.declared.tables.Round.{Round}
-use Rattle.dstm_jobs.specs.declared.tables.Table.{Table}
-use Rattle.dstm_jobs.specs.Callers.{AtRest, CameByCalls, begun, done, home_of, let_go, number_of, round_of}
-use Rattle.dstm_jobs.specs.Founders.{guests_of, home_there, numbers_of, out_of, seen_by}
-use Rattle.dstm_jobs.specs.Tells.{IsPast, SameOwn}
+use Rattle.dstm_jobs.specs.Tables.{AtRest, Caller, Founder, Round, Table}
+use Rattle.dstm_tables.specs.Callers.{CameByCalls, begun, done, home_of, let_go, number_of, round_of}
+use Rattle.dstm_tables.specs.Founders.{guests_of, home_there, numbers_of, out_of, seen_by}
+use Rattle.dstm_tables.specs.Tells.{IsPast, SameOwn}
 use Rattle.dstm_records.specs.Records.{seed_for}
 use Rattle.dstm_crew.specs.declared.share.Share.{Share}
 use Rattle.dstm_crew.specs.declared.worker.Worker.{Worker}

@@ -1,7 +1,7 @@
 -- Private: the shares of a parallel round: what its workers have to do, and what they have done on its table.
 use Rattle.std.specs.Prelude.{◌≡◌, ℕ, ◌<◌, ◌≤◌, ◌==◌, ◌||◌, Bool, true, filter, List, [], ◌∷◌, length, map, reverse, zip, All}
 use Rattle.dstm_model.specs.declared.value.Val.{Val}
-use Rattle.dstm_jobs.specs.declared.tables.Round.{Round}
+use Rattle.dstm_jobs.specs.Tables.{IsOf, Round}
 use Rattle.dstm_words.specs.Seats.{AreApart}
 use Rattle.dstm_workload.specs.declared.workload.Job.{Job}
 use Rattle.dstm_workload.specs.declared.workload.Workload.{Workload}
@@ -11,7 +11,7 @@ use Rattle.dstm_records.specs.Records.{IsMade, IsReleasing, IsRun, KeepsReads, s
 use Rattle.dstm_jobs.specs.Answers.{KeepsFew}
 use Rattle.dstm_records.specs.Rounds.{all_workers, greatest, has_job}
 use Rattle.dstm_crew.specs.Workers.{AreDone, next_job}
-use Rattle.dstm_jobs.specs.Tells.{ByCalls, IsOf, callers_of, done_of, let_go_by, lets_go, start_of, values_of}
+use Rattle.dstm_tables.specs.Tells.{ByCalls, callers_of, done_of, let_go_by, lets_go, start_of, values_of}
 use Rattle.dstm_jobs.specs.Jobs.{HadToStop, NoneWasted}
 use Rattle.dstm_crew.specs.declared.share.Share.{Share}
 

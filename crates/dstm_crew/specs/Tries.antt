@@ -5,15 +5,15 @@ use Rattle.dstm_model.specs.declared.layout.Layout.{Layout}
 use Rattle.dstm_workload.specs.declared.workload.Job.{Job}
 use Rattle.dstm_jobs.specs.declared.style.Style.{Style}
 use Rattle.dstm_jobs.specs.declared.style.Style.TheVariants.{Branches, Loose}
-use Rattle.dstm_jobs.specs.declared.tables.Caller.{Caller}
+use Rattle.dstm_jobs.specs.Tables.{Caller, GoesOn}
 use Rattle.dstm_jobs.specs.declared.trying.Finished.{Finished}
 use Rattle.dstm_jobs.specs.declared.trying.Left.{Left}
 use Rattle.dstm_jobs.specs.declared.trying.Left.TheVariants as left
 use Rattle.dstm_jobs.specs.Answers.{IsDone, KeepsFew}
-use Rattle.dstm_jobs.specs.Callers.{begun, done, number_of, round_of}
-use Rattle.dstm_jobs.specs.Jobs.{StoodBlocked, WasNotWasted}
-use Rattle.dstm_jobs.specs.Tells.{IsSpent, lets_go}
-use Rattle.dstm_jobs.specs.Tries.{GoesOn}
+use Rattle.dstm_tables.specs.Callers.{begun, done, number_of, round_of}
+use Rattle.dstm_jobs.specs.Jobs.{StoodBlocked}
+use Rattle.dstm_tables.specs.Tries.{WasNotWasted}
+use Rattle.dstm_tables.specs.Tells.{IsSpent, lets_go}
 
 -- no attempt since was wasted, up to this number
 abbrev pub NoneWastedSince : (k n : Caller) → ℕ → Type 0

@@ -8,14 +8,13 @@ use Rattle.dstm_workload.specs.declared.workload.Job.{Job}
 use Rattle.dstm_workload.specs.declared.workload.Workload.{Workload}
 use Rattle.dstm_report.specs.Turns.{job_at}
 use Rattle.dstm_options.specs.declared.options.Options.{Options}
-use Rattle.dstm_jobs.specs.declared.tables.Table.{Table}
+use Rattle.dstm_jobs.specs.Tables.{AtRest, GoesOn, Table}
 use Rattle.dstm_jobs.specs.declared.trying.Finished.{Finished}
 use Rattle.dstm_jobs.specs.Answers.{IsDone, KeepsFew}
-use Rattle.dstm_jobs.specs.Callers as callers
-use Rattle.dstm_jobs.specs.Callers.{AtRest, begun, done, home_of, law_of, number_of, round_of}
+use Rattle.dstm_tables.specs.Callers as callers
+use Rattle.dstm_tables.specs.Callers.{begun, done, home_of, law_of, number_of, round_of}
 use Rattle.dstm_jobs.specs.Jobs.{HadToStop, NoneWasted}
-use Rattle.dstm_jobs.specs.Tells.{lets_go}
-use Rattle.dstm_jobs.specs.Tries.{GoesOn}
+use Rattle.dstm_tables.specs.Tells.{lets_go}
 use Rattle.dstm_records.specs.Records.{IsReleasing}
 use Rattle.dstm_crew.specs.declared.worker.Worker.{Worker}
 

@@ -4,7 +4,7 @@ ghost use Rattle.dstm_workload.specs.Workload.{IsValidWorkload};
 ghost use Rattle.dstm_store.specs.Whole.{IsLawful};
 ghost use Rattle.dstm_records.specs.Records.{seed_for};
 ghost use Rattle.dstm_records.specs.Rounds.{is_parallel};
-ghost use Rattle.dstm_jobs.specs.Callers.{CameByCalls, HasSeed};
+ghost use Rattle.dstm_tables.specs.Callers.{CameByCalls, HasSeed};
 ghost use Rattle.dstm_crew.specs.Opened.{IsOpened, with_jobs};
 ghost use Rattle.dstm_crew.specs.Playing.{CanPlay, HasPlayed, WasBrokenOff};
 
@@ -12,12 +12,12 @@ use crate::closing::close_behind;
 use crate::play::Play;
 use crate::progress::Progress;
 use crate::sweeping::run_alone;
+use dstm_jobs::{Caller, Founder, Table, Zeros, make};
 use dstm_model::Val;
 use dstm_options::Options;
 use dstm_records::shape_for;
 use dstm_report::Turns;
 use dstm_store::StoreLaw;
-use dstm_jobs::{Caller, Founder, Table, Zeros, make};
 use dstm_workload::Workload;
 use std::alloc::{AllocError, Global};
 use std::mem::replace;
@@ -114,7 +114,7 @@ fn open_table(
     };
     let (table, mut founder) = make(alloc, options.engine, zeros, values, shape, law)?;
     let seed = options.seed.wrapping_add(u64::from(waiting.first));
-    let caller = founder.caller(alloc, &table, seed)?;
+    let caller = founder.next_caller(alloc, &table, seed)?;
     Ok((table, founder, caller))
 }
 

@@ -1,9 +1,10 @@
 ghost use Rattle.std.specs.Prelude.{◌≡◌, ◌<◌, ◌++◌, ◌∷◌, [], vec_len, vec_capacity, IfOk, OnOk, OnErr};
-ghost use Rattle.dstm_jobs.specs.Founders.{guests_of, home_there, out_of, seen_by};
-ghost use Rattle.dstm_jobs.specs.Tells.{IsRun, values_of};
+ghost use Rattle.dstm_tables.specs.Founders.{guests_of, home_there, out_of, seen_by};
+ghost use Rattle.dstm_jobs.specs.Tables.{IsRun};
+ghost use Rattle.dstm_tables.specs.Tells.{values_of};
 
-use dstm_model::Val;
 use dstm_jobs::{Founder, Round, Table};
+use dstm_model::Val;
 use std::alloc::{AllocError, Global};
 
 /// Closes a table, and puts its record behind the others, for which there has to be room. It gives the values that the table

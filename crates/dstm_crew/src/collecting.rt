@@ -1,5 +1,5 @@
 ghost use Rattle.std.specs.Prelude.{◌≡◌, ◌<◌, ◌≤◌, ◌+◌, ◌++◌, ◌∷◌, [], List, length, vec_len, vec_capacity, IfNone, IfSome, replicate, ℕ};
-ghost use Rattle.dstm_jobs.specs.declared.tables.Round.{Round};
+ghost use Rattle.dstm_jobs.specs.Tables.{Round};
 ghost use Rattle.dstm_options.specs.declared.options.Options.{Options as Choices};
 ghost use Rattle.dstm_crew.specs.Collecting.{AreRunBy, AreTaken, CanCollect, HasCollected, IsFit, IsNext, IsRowOf, lesser_of, number_at};
 

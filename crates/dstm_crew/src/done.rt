@@ -2,8 +2,8 @@ ghost use Rattle.std.specs.Prelude.{◌≡◌, ◌+◌, ◌<◌, ◌≤◌, ◌+
 ghost use Rattle.std.specs.List.{slice_get};
 ghost use Rattle.std.specs.Option.{option_map};
 
-use dstm_model::Reply;
 use dstm_jobs::Finished;
+use dstm_model::Reply;
 use std::alloc::{AllocError, Global};
 use std::marker::Model;
 

@@ -29,8 +29,8 @@ mod worker;
 
 pub use crew::run_crew;
 pub use done::Done;
+pub use dstm_jobs::Round;
 pub use dstm_options::{Engine, Options};
 pub use dstm_records::Rounds;
-pub use dstm_jobs::Round;
 pub use gate::{Gate, OpenGate};
 pub use worker::Worker;

@@ -1,6 +1,6 @@
+use dstm_jobs::{Round, Zeros};
 use dstm_model::Val;
 use dstm_report::{Row, Turns};
-use dstm_jobs::{Round, Zeros};
 
 /// How far a run has come between two rounds.
 #[derive(Drop)]

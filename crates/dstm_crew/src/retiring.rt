@@ -1,6 +1,6 @@
 ghost use Rattle.std.specs.Prelude.{◌≡◌, [], length, map, All, IfOk};
-ghost use Rattle.dstm_jobs.specs.Callers.{IsOver, home_of};
-ghost use Rattle.dstm_jobs.specs.Founders.{TakesBack, home_there};
+ghost use Rattle.dstm_tables.specs.Callers.{IsOver, home_of};
+ghost use Rattle.dstm_tables.specs.Founders.{TakesBack, home_there};
 ghost use Rattle.dstm_crew.specs.Seats.{HasBack, RestsAt, share_of};
 
 use crate::share::Share;

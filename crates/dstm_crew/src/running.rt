@@ -1,5 +1,5 @@
 ghost use Rattle.std.specs.Prelude.{◌≡◌, ◌<◌, ◌≤◌, ◌++◌, ◌∷◌, [], true, length, vec_len, vec_capacity, All, IfOk, IfErr};
-ghost use Rattle.dstm_jobs.specs.declared.tables.Round.{Round as Record};
+ghost use Rattle.dstm_jobs.specs.Tables.{Round as Record};
 ghost use Rattle.dstm_store.specs.Whole.{IsLawful};
 ghost use Rattle.dstm_workload.specs.Workload.{IsValidWorkload};
 ghost use Rattle.dstm_records.specs.Rounds.{is_parallel};
@@ -13,9 +13,9 @@ use crate::retiring::retire_all;
 use crate::seats::seat_all;
 use crate::share::Share;
 use crate::sizing::shape_for;
+use dstm_jobs::{Round, Zeros, make};
 use dstm_model::Val;
 use dstm_store::StoreLaw;
-use dstm_jobs::{Round, Zeros, make};
 use std::alloc::{AllocError, Global};
 use std::thread::Threads;
 

@@ -1,13 +1,14 @@
 ghost use Rattle.std.specs.Prelude.{◌≡◌, ◌<◌, [], length, map, All, IfOk};
-ghost use Rattle.dstm_jobs.specs.Founders.{GivesOut, HasGivenNone, first_of, home_there, made_of};
-ghost use Rattle.dstm_jobs.specs.Tells.{callers_of};
+ghost use Rattle.dstm_jobs.specs.Tables.{GivesOut};
+ghost use Rattle.dstm_tables.specs.Founders.{HasGivenNone, first_of, home_there, made_of};
+ghost use Rattle.dstm_tables.specs.Tells.{callers_of};
 ghost use Rattle.dstm_records.specs.Records.{seed_for};
 ghost use Rattle.dstm_crew.specs.Seats.{HasBack, HasCome, IsNew, share_of};
 
 use crate::share::Share;
 use crate::worker::Worker;
-use dstm_options::Options;
 use dstm_jobs::{Founder, Table};
+use dstm_options::Options;
 use std::alloc::{AllocError, Global};
 
 /// Gives each share a worker with a caller of its own, in order. The founder is that of a new table, which has a caller
@@ -48,7 +49,7 @@ fn seat(
         GivesOut table.now founder.old founder.new (seed_for options.now share.worker) worker.caller) }
 {
     let seed = options.seed.wrapping_add(u64::from(share.worker));
-    let caller = founder.caller(alloc, table, seed)?;
+    let caller = founder.next_caller(alloc, table, seed)?;
     let Share {
         worker,
         places,

@@ -2,8 +2,8 @@ ghost use Rattle.std.specs.Prelude.{◌≡◌};
 ghost use Rattle.dstm_jobs.specs.Styles.{style_of};
 ghost use Rattle.dstm_crew.specs.Releases.{releases};
 
-use dstm_options::{Engine, Options};
 use dstm_jobs::Style;
+use dstm_options::{Engine, Options};
 
 /// How the jobs of a workload of this version are run by these options.
 pub(crate) fn style_for(options: &Options, version: u32) -> Style

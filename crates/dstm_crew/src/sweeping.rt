@@ -2,15 +2,15 @@ ghost use Rattle.std.specs.Prelude.{◌≡◌, ◌<◌, ◌≤◌, ◌+◌, ◌+
 ghost use Rattle.dstm_report.specs.Lawful.{first_job};
 ghost use Rattle.dstm_report.specs.Turns.{without_first, Turning};
 ghost use Rattle.dstm_records.specs.Records.{KeepsReads};
-ghost use Rattle.dstm_jobs.specs.Callers.{let_go};
-ghost use Rattle.dstm_jobs.specs.declared.tables.Caller.{Caller as Called};
+ghost use Rattle.dstm_tables.specs.Callers.{let_go};
+ghost use Rattle.dstm_jobs.specs.Tables.{Caller as Called};
 ghost use Rattle.dstm_crew.specs.Alone.{CanRunAlone, HasRunAlone, HasStepped, Leads, MayStep, Sweeps};
 
 use crate::play::Play;
 use crate::style::style_for;
+use dstm_jobs::{Caller, OnlyTried, Table, give_up, try_alone};
 use dstm_model::{Replies, Reply};
 use dstm_report::{Row, Turns};
-use dstm_jobs::{Caller, OnlyTried, Table, give_up, try_alone};
 use dstm_workload::Job;
 
 // How a pass over the workers ended.

@@ -1,11 +1,12 @@
 ghost use Rattle.std.specs.Prelude.{◌≡◌, ◌≢◌, IfErr, IfOk};
-ghost use Rattle.dstm_jobs.specs.Callers.{AtRest, home_of, law_of, let_go};
+ghost use Rattle.dstm_jobs.specs.Tables.{AtRest};
+ghost use Rattle.dstm_tables.specs.Callers.{home_of, law_of, let_go};
 ghost use Rattle.dstm_jobs.specs.Styles.{CanTry};
 ghost use Rattle.dstm_jobs.specs.declared.style.Style.TheVariants.{Loose};
 ghost use Rattle.dstm_crew.specs.Tries.{HasDone, HasLeft};
 
-use dstm_model::Layout;
 use dstm_jobs::{Caller, Finished, Left, RECHECKS, Style, Table, Tried, attempt_job};
+use dstm_model::Layout;
 use dstm_workload::Job;
 use std::thread::yield_now;
 

@@ -1,6 +1,6 @@
 ghost use Rattle.std.specs.Prelude.{◌≡◌};
 ghost use Rattle.dstm_workload.specs.Workload.{IsValidWorkload};
-ghost use Rattle.dstm_jobs.specs.Callers.{let_go};
+ghost use Rattle.dstm_tables.specs.Callers.{let_go};
 ghost use Rattle.dstm_records.specs.Records.{KeepsReads};
 ghost use Rattle.dstm_crew.specs.Workers.{IsReady, HasRun};
 
@@ -8,8 +8,8 @@ use crate::done::Done;
 use crate::gate::Gate;
 use crate::style::style_for;
 use crate::trying::try_job;
-use dstm_options::Options;
 use dstm_jobs::{Caller, Table};
+use dstm_options::Options;
 use dstm_workload::Workload;
 
 /// A worker in a parallel round.

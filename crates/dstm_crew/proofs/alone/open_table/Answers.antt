@@ -1,6 +1,6 @@
 use Rattle.std.proofs.Common.{◌≡◌, ◌∙◌, ◌+◌, ◌&&◌, Bool, true, false, not, ap, arith, refl, subst, sym, true≢false}
 use Rattle.std.specs.Prelude.{◌==◌}
-use Rattle.dstm_jobs.specs.Founders.{first_of}
+use Rattle.dstm_tables.specs.Founders.{first_of}
 use Rattle.dstm_jobs.proofs.Same.{locators_told, writes_told}
 use Rattle.dstm_records.specs.Rounds.{locators_for}
 use Rattle.dstm_records.proofs.Making.{is_made}

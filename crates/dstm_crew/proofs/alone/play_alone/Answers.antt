@@ -1,6 +1,6 @@
 use Rattle.std.proofs.Common.{List, ap, subst, ◌∙◌}
 use Rattle.dstm_model.specs.declared.value.Val.{Val}
-use Rattle.dstm_jobs.specs.Founders.{seen_by}
+use Rattle.dstm_tables.specs.Founders.{seen_by}
 use Rattle.dstm_crew.specs.Opened.{IsOpened}
 use Rattle.dstm_crew.proofs.Closes.{adds_alone, can_run, least_came, opened_for}
 use Rattle.dstm_crew.proofs.alone.play_alone.Goals as goal
@@ -35,7 +35,7 @@ returns-clause-played g c =
       rounds_are = c.in_ok-left.ensures.kept;
       adds = adds_alone workload options c.args.number p.rows.items p.values.items table c.in_ok-table.founder taken
           c.in_ok-table.caller c.run_alone.new.caller c.run_alone.new.rows.items c.run_alone.new.turns c.requires.alone
-          c.requires.can.begins opened ran (λ none. c.run_alone.ensures.keeps none ∙ opened.none_let_go) c.retire.ensures
+          c.requires.can.begins opened ran (λ none. c.run_alone.ensures.keeps none ∙ opened.none_let_go) (c.retire.ensures.back ran.goes.on.rest.over)
           c.in_ok-left.ensures.run (least_came workload options p.rows.items c.count_waiting-waiting.result.first
           c.in_ok-table.caller c.requires.can.turns c.count_waiting-waiting.ensures.first c.in_ok-table.ensures.come)
           c.in_ok-left.ensures.values;

@@ -1,5 +1,5 @@
 use Rattle.std.proofs.Common.{List, sym, subst}
-use Rattle.dstm_jobs.specs.declared.tables.Round.{Round}
+use Rattle.dstm_jobs.specs.Tables.{Round}
 use Rattle.dstm_records.specs.Records.{AreFirstRounds}
 use Rattle.dstm_records.specs.Running.{added}
 use Rattle.dstm_records.proofs.First.{first_closed}

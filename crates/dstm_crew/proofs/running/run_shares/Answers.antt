@@ -1,8 +1,8 @@
 use Rattle.std.proofs.Common.{◌≡◌, ◌∙◌, List, ap, length, map, rules, subst, sym}
 use Rattle.std.specs.Prelude.{All}
 use Rattle.std.proofs.lemmas.List.Elements.{All-weaker}
-use Rattle.dstm_jobs.specs.declared.founding.Founder.{Founder}
-use Rattle.dstm_jobs.specs.Founders.{first_of, seen_by}
+use Rattle.dstm_jobs.specs.Tables.{Founder}
+use Rattle.dstm_tables.specs.Founders.{first_of, seen_by}
 use Rattle.dstm_records.specs.Records.{IsDstmMade, IsMade}
 use Rattle.dstm_records.specs.Rounds.{locators_for}
 use Rattle.dstm_records.proofs.Making.{is_made}

@@ -1,5 +1,5 @@
 use Rattle.std.specs.Prelude.{◌≡◌, ◌+◌, ◌≤◌, length, vec_len, vec_capacity, Bool}
-use Rattle.dstm_jobs.specs.Callers.{let_go}
+use Rattle.dstm_tables.specs.Callers.{let_go}
 use Rattle.dstm_records.specs.Records.{KeepsReads}
 use Rattle.dstm_crew.specs.Alone.{MayStep, Sweeps}
 use Rattle.dstm_crew.proofs.sweeping.run_alone.Given as goal

@@ -1,6 +1,6 @@
 use Rattle.std.specs.Prelude.{◌≡◌, ◌≤◌, ◌+◌, List, length, vec_len, vec_capacity, Bool}
-use Rattle.dstm_jobs.specs.declared.tables.Caller.{Caller}
-use Rattle.dstm_jobs.specs.Callers.{let_go}
+use Rattle.dstm_jobs.specs.Tables.{Caller}
+use Rattle.dstm_tables.specs.Callers.{let_go}
 use Rattle.dstm_records.specs.Records.{KeepsReads}
 use Rattle.dstm_report.specs.declared.report.Row.{Row}
 use Rattle.dstm_report.specs.Turns.{Turning}

@@ -1,7 +1,7 @@
 use Rattle.std.proofs.Common.{◌≡◌, ◌≢◌, ◌-◌, ◌≤◌}
-use Rattle.dstm_jobs.specs.Callers.{begun, let_go, round_of}
+use Rattle.dstm_tables.specs.Callers.{begun, let_go, round_of}
 use Rattle.dstm_jobs.specs.declared.style.Style.TheVariants.{Loose}
-use Rattle.dstm_jobs.specs.Tells.{attempts_of}
+use Rattle.dstm_tables.specs.Tells.{attempts_of}
 use Rattle.dstm_crew.proofs.Retrying.{Waited}
 use Rattle.dstm_crew.proofs.trying.try_job.Given as goal
 

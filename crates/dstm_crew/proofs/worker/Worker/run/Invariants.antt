@@ -1,5 +1,5 @@
 use Rattle.std.proofs.Common.{◌≡◌, ◌≤◌, length}
-use Rattle.dstm_jobs.specs.Callers.{let_go}
+use Rattle.dstm_tables.specs.Callers.{let_go}
 use Rattle.dstm_records.specs.Records.{KeepsReads}
 use Rattle.dstm_crew.proofs.Worked.{Stands}
 use Rattle.dstm_crew.proofs.worker.Worker.run.Given as goal
