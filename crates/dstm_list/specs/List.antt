@@ -8,18 +8,17 @@ use Rattle.dstm_model.specs.declared.layout.Layout.{Layout}
 use Rattle.dstm_model.specs.Map.{value_at}
 use Rattle.dstm_model.specs.Store.{Store}
 use Rattle.dstm_model.specs.Objects.{list_begin, tree_begin, free_object, node_object, plain}
-use Rattle.dstm_list.specs.declared.node.TheConstants.{LINK_LIMIT}
 
 -- what a node holds: its key and the number of the next node, 0 where there is none. The heads of the
 -- two chains and the free nodes hold such a number alone.
 abbrev pub node : ℕ → ℕ → Val
-node key next = plain (key * LINK_LIMIT + next)
+node key next = plain (key * 2048 + next)
 
 abbrev pub key_of : Val → ℕ
-key_of v = v.low / LINK_LIMIT
+key_of v = v.low / 2048
 
 abbrev pub next_of : Val → ℕ
-next_of v = v.low % LINK_LIMIT
+next_of v = v.low % 2048
 
 -- a node that is in the list
 pub record Cell : Type 0 where
