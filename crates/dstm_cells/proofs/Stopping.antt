@@ -9,7 +9,7 @@ use Rattle.dstm_attempts.specs.Attempts as attempts
 use Rattle.dstm_attempts.specs.Attempts.{IsNotOpened, goes_on, objects_of}
 use Rattle.dstm_cells.specs.UnderWay.{Refuses, StopsChange, StopsLook, stop_by, stop_for}
 use Rattle.dstm_cells.specs.declared.error.Stop.{Stop}
-use Rattle.dstm_cells.specs.declared.error.Cause.TheVariants.{Again}
+use Rattle.dstm_cells.specs.declared.error.Why.TheVariants.{Again}
 
 -- a refusal, as a closure hands it out
 told : {T U : Type 0} → Result T NotOpened → Result U Stop
@@ -39,11 +39,11 @@ module _ {L : Type 0} where
 
   module _ (holds : L → List Val → Type 0) where
     pub stops_look : (o : ℕ) (k n : Caller L) (why : NotOpened) → IsNotOpened holds false o k n why →
-        StopsLook holds o k n (stop_for why).cause
+        StopsLook holds o k n (stop_for why).why
     stops_look o k n Over not_opened = not_opened
     stops_look o k n Foreign not_opened = not_opened
 
     pub stops_change : (notes : Bool) (o : ℕ) (k n : Caller L) (why : NotOpened) → IsNotOpened holds true o k n why →
-        StopsChange holds notes o k n (stop_for why).cause
+        StopsChange holds notes o k n (stop_for why).why
     stops_change notes o k n Over not_opened = not_opened
     stops_change notes o k n Foreign not_opened = not_opened

@@ -8,8 +8,8 @@ use Rattle.dstm_tables.specs.declared.tables.Table.TheVariants as table
 use Rattle.dstm_attempts.specs.Attempts.{AddsNothing, Attempt, Keeps, LooksChanged, LooksSame, LooksSpent, attempt, begun, clock}
 use Rattle.dstm_attempts.proofs.UnderWay.{adds_nothing, begins_none, nothing_twice}
 use Rattle.dstm_cells.specs.Attempts.{StaysFor, StaysLooking, looked}
-use Rattle.dstm_cells.specs.declared.error.Cause.{Cause}
-use Rattle.dstm_cells.specs.declared.error.Cause.TheVariants.{Again, Retry, Foreign, Memory}
+use Rattle.dstm_cells.specs.declared.error.Why.{Why}
+use Rattle.dstm_cells.specs.declared.error.Why.TheVariants.{Again, Retry, Foreign, Memory}
 
 module _ {L : Type 0} where
   -- an attempt stays with its engine
@@ -91,14 +91,14 @@ module _ {L : Type 0} where
   kept_nothing k n keeps = let none = begins_none k n keeps in (adds_nothing k n keeps, omega (arith, none))
 
   -- a stop has committed nothing, and begun no less
-  pub stop_nothing : (cause : Cause) (k n : Caller L) → StaysFor cause k n → AddsNothing k n × (begun k ≤ begun n)
+  pub stop_nothing : (why : Why) (k n : Caller L) → StaysFor why k n → AddsNothing k n × (begun k ≤ begun n)
   stop_nothing Again k n stays = kept_nothing k n stays
   stop_nothing Retry k n stays = stays_nothing k n stays
   stop_nothing Foreign k n stays = kept_nothing k n stays
   stop_nothing Memory k n stays = kept_nothing k n stays
 
   -- an attempt that stays, behind a stop
-  pub stop_kept : (cause : Cause) (k m n : Caller L) → StaysFor cause k m → Keeps m n → StaysFor cause k n
+  pub stop_kept : (why : Why) (k m n : Caller L) → StaysFor why k m → Keeps m n → StaysFor why k n
   stop_kept Again k m n stays keeps = keeps ∙ stays
   stop_kept Retry k m n stays keeps = stays_kept k m n stays keeps
   stop_kept Foreign k m n stays keeps = keeps ∙ stays

@@ -6,7 +6,7 @@ use Rattle.dstm_model.specs.declared.value.Law.{Ghosts}
 use Rattle.dstm_model.specs.declared.value.Val.{Val}
 use Rattle.dstm_tables.specs.declared.tables.Caller.{Caller}
 use Rattle.dstm_cells.specs.declared.error.Stop.{Stop}
-use Rattle.dstm_cells.specs.declared.error.Cause.TheVariants.{Retry}
+use Rattle.dstm_cells.specs.declared.error.Why.TheVariants.{Retry}
 use Rattle.dstm_cells.specs.declared.under_way.Tx.{Tx}
 use Rattle.dstm_cells.specs.declared.under_way.Undo.{Undo}
 use Rattle.dstm_cells.specs.UnderWay.{Keeps, MayBegin, StopsChange, seen, stop_by}
@@ -70,7 +70,7 @@ module _ {L : Type 0} where
       pub object : ℕ
       pub last : Caller L
       pub keeps : Keeps old last
-      pub stops : StopsChange holds false object last new stop.cause
+      pub stops : StopsChange holds false object last new stop.why
 
 module _ {X L F R : Type 0} (noting : X → Noting L)
     (g : Once F (MutBor X × Unit {0}) (Result R Stop × (MutBor X × Unit {0}))) (f : F) where

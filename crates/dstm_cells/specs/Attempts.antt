@@ -8,8 +8,8 @@ use Rattle.dstm_attempts.specs.Attempts.{AddsNothing, IsSpent, Keeps, LooksChang
 use Rattle.dstm_cells.specs.declared.error.GaveUp.{GaveUp}
 use Rattle.dstm_cells.specs.declared.error.GaveUp.TheVariants.{Idle, Spent}
 use Rattle.dstm_cells.specs.declared.error.GaveUp.TheVariants as gave_up
-use Rattle.dstm_cells.specs.declared.error.Cause.{Cause}
-use Rattle.dstm_cells.specs.declared.error.Cause.TheVariants.{Again, Retry, Foreign, Memory}
+use Rattle.dstm_cells.specs.declared.error.Why.{Why}
+use Rattle.dstm_cells.specs.declared.error.Why.TheVariants.{Again, Retry, Foreign, Memory}
 
 module _ {L : Type 0} where
   -- WHY A CALLER COULD NOT READ ALL OBJECTS TOGETHER: it has no attempt left, or no locator; or it has begun so many attempts
@@ -31,7 +31,7 @@ module _ {L : Type 0} where
   StaysLooking old new = ⊥
 
   -- what a stop leaves: the same attempt, but for a retry
-  abbrev pub StaysFor : Cause → Caller L → Caller L → Type 0
+  abbrev pub StaysFor : Why → Caller L → Caller L → Type 0
   StaysFor Again old new = Keeps old new
   StaysFor Retry old new = StaysLooking old new
   StaysFor Foreign old new = Keeps old new
@@ -70,7 +70,7 @@ module _ {L : Type 0} where
     FollowsRetry looks k (Err gave_up.Memory) = ⊥
 
     -- WHAT FOLLOWS WHERE A CLOSURE STOPS ITS ATTEMPT: a further attempt, or none, and why
-    abbrev pub Follows : (looks : ℕ) → Caller L → Cause → Result (Unit {0}) GaveUp → Type 0
+    abbrev pub Follows : (looks : ℕ) → Caller L → Why → Result (Unit {0}) GaveUp → Type 0
     Follows looks k Again next = next ≡ Ok tt
     Follows looks k Retry next = FollowsRetry looks k next
     Follows looks k Foreign next = next ≡ Err gave_up.Foreign

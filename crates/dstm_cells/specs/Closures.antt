@@ -53,7 +53,7 @@ module _ {X L F R : Type 0} (caller : X → Caller L) where
         pub record WasStopped (k : Caller L) (why : GaveUp) : Type 0 where
           pub stop : Stop
           pub last : CalledAnew k (Err stop)
-          pub follows : Follows holds (patience last.ended) (caller last.ended) stop.cause (Err why)
+          pub follows : Follows holds (patience last.ended) (caller last.ended) stop.why (Err why)
 
         -- WHY A TRANSACTION DID NOT TAKE EFFECT: the caller has no attempt left, or no locator; or the closure stopped its
         -- attempt.

@@ -5,14 +5,14 @@ use Rattle.dstm_tables.specs.declared.tables.Caller.{Caller}
 use Rattle.dstm_attempts.specs.declared.error.NotOpened.{NotOpened}
 use Rattle.dstm_attempts.specs.declared.error.NotOpened.TheVariants as not_opened
 use Rattle.dstm_attempts.specs.Attempts.{IsNotOpened, goes_on, is_under_way, objects_of}
-use Rattle.dstm_cells.specs.declared.error.Cause.{Cause}
-use Rattle.dstm_cells.specs.declared.error.Cause.TheVariants.{Again, Retry, Foreign, Memory}
+use Rattle.dstm_cells.specs.declared.error.Why.{Why}
+use Rattle.dstm_cells.specs.declared.error.Why.TheVariants.{Again, Retry, Foreign, Memory}
 use Rattle.dstm_cells.specs.declared.error.Stop.{Stop}
 pub use Rattle.dstm_attempts.specs.Attempts.{AddsNothing, Exchanges, Finds, IsUntouched, Keeps, LeavesLawful, MayBegin, Puts, SetsNothing, TakesEffect, attempt, seen}
 
--- a stop of this cause
-abbrev pub stop_by : Cause → Stop
-stop_by cause = record { cause = cause }
+-- a stop for this reason
+abbrev pub stop_by : Why → Stop
+stop_by why = record { why = why }
 
 -- how a closure hands out why an object was not opened: an attempt that is over is made again
 abbrev pub stop_for : NotOpened → Stop
@@ -27,7 +27,7 @@ module _ {L : Type 0} where
 
   module _ (holds : L → List Val → Type 0) where
     -- WHY A CALL THAT LOOKS AT AN OBJECT STOPS, and what it leaves: it never retries, and notes nothing
-    abbrev pub StopsLook : ℕ → Caller L → Caller L → Cause → Type 0
+    abbrev pub StopsLook : ℕ → Caller L → Caller L → Why → Type 0
     StopsLook o old new Again = IsNotOpened holds false o old new not_opened.Over
     StopsLook o old new Retry = ⊥
     StopsLook o old new Foreign = IsNotOpened holds false o old new not_opened.Foreign
@@ -35,7 +35,7 @@ module _ {L : Type 0} where
 
     -- WHY A CALL THAT SETS AN OBJECT STOPS, and what it leaves: it never retries, and wants memory only where it is to note
     -- what it sets
-    abbrev pub StopsChange : (notes : Bool) → ℕ → Caller L → Caller L → Cause → Type 0
+    abbrev pub StopsChange : (notes : Bool) → ℕ → Caller L → Caller L → Why → Type 0
     StopsChange notes o old new Again = IsNotOpened holds true o old new not_opened.Over
     StopsChange notes o old new Retry = ⊥
     StopsChange notes o old new Foreign = IsNotOpened holds true o old new not_opened.Foreign

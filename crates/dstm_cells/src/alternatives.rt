@@ -3,9 +3,9 @@ ghost use Rattle.std.specs.Prelude.{◌≡◌, ◌≢◌, true, false, Err};
 ghost use Rattle.dstm_cells.specs.Alternatives.{Notes, NotesOnce, OrElse};
 ghost use Rattle.dstm_cells.specs.Closures.{KeepsOnce};
 ghost use Rattle.dstm_cells.specs.UnderWay.{Keeps, stop_by};
-ghost use Rattle.dstm_cells.specs.declared.error.Cause.TheVariants.{Retry};
+ghost use Rattle.dstm_cells.specs.declared.error.Why.TheVariants.{Retry};
 
-use crate::error::{Cause, Stop};
+use crate::error::{Stop, Why};
 use crate::transaction::Transaction;
 
 /// Goes on by the first alternative, or by the second one where the first retries. What the first has set is then undone;
@@ -41,13 +41,13 @@ fn has_retried<R>(answer: &Result<R, Stop>) -> bool
     ensures retries { result ≡ true → answer.now ≡ Err (stop_by Retry) }
     ensures goes_on { result ≡ false → answer.now ≢ Err (stop_by Retry) }
 {
-    matches!(answer, Err(Stop { cause: Cause::Retry }))
+    matches!(answer, Err(Stop { why: Why::Retry }))
 }
 
 // Lets the answer of an alternative go that the other one takes the place of.
 fn let_go<R: Drop>(answer: Result<R, Stop>) {
     match answer {
         Ok(_answer) => {}
-        Err(Stop { cause: _ }) => {}
+        Err(Stop { why: _ }) => {}
     }
 }

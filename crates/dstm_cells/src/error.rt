@@ -4,16 +4,16 @@ use std::alloc::{AllocError, AllocFailed};
 use std::error::Error;
 use std::fmt;
 
-/// Why a closure cannot go on with its transaction. It can only be handed on, by `?` or as the closure's own answer: it is not
-/// let go, not copied and not looked into. So no closure goes on behind a call that was stopped, and none takes effect.
+/// Why a closure cannot go on with its transaction. It can only be handed on, by `?` or as the closure's own answer: it is
+/// not let go, not copied and not looked into. So no closure goes on behind a call that was stopped and takes effect.
 #[derive(Debug)]
 pub struct Stop {
-    pub(crate) cause: Cause,
+    pub(crate) why: Why,
 }
 
-// What has stopped a closure.
+// Why a call has stopped a closure.
 #[derive(Clone, Copy, Debug, PartialEq, Eq)]
-pub enum Cause {
+pub enum Why {
     /// Another transaction came between. The closure is called again at once.
     Again,
     /// It cannot go on with what it has read. It is called again once some of this has changed; by TL2 once any transaction
@@ -31,7 +31,7 @@ pub enum GaveUp {
     /// The thread's attempts, or its locators, are used up: this and every later transaction of the thread in this run. By
     /// TL2 no program lives so long.
     Spent,
-    /// The closure answered `Retry`, and for long nothing has changed: by DSTM nothing that it has read; by TL2 no
+    /// The closure has retried, and for long nothing has changed: by DSTM nothing that it has read; by TL2 no
     /// transaction took effect.
     Idle,
     /// The memory has no such cell.
@@ -100,11 +100,11 @@ impl From<NotOpened> for Stop {
     ghost from_gives = { λ why e. e ≡ stop_for why };
 
     fn from(why: NotOpened) -> Stop {
-        let cause = match why {
-            NotOpened::Over => Cause::Again,
-            NotOpened::Foreign => Cause::Foreign,
+        let why = match why {
+            NotOpened::Over => Why::Again,
+            NotOpened::Foreign => Why::Foreign,
         };
-        Stop { cause }
+        Stop { why }
     }
 }
 
@@ -133,23 +133,23 @@ impl<T: Drop> From<AllocFailed<T>> for Failed {
 impl From<AllocError> for Stop {
     ghost use Rattle.std.specs.Prelude.{◌≡◌};
     ghost use Rattle.dstm_cells.specs.UnderWay.{stop_by};
-    ghost use Rattle.dstm_cells.specs.declared.error.Cause.TheVariants.{Memory};
+    ghost use Rattle.dstm_cells.specs.declared.error.Why.TheVariants.{Memory};
 
     ghost from_gives = { λ _ e. e ≡ stop_by Memory };
 
     fn from(_e: AllocError) -> Stop {
-        Stop { cause: Cause::Memory }
+        Stop { why: Why::Memory }
     }
 }
 
 impl<T: Drop> From<AllocFailed<T>> for Stop {
     ghost use Rattle.std.specs.Prelude.{◌≡◌};
     ghost use Rattle.dstm_cells.specs.UnderWay.{stop_by};
-    ghost use Rattle.dstm_cells.specs.declared.error.Cause.TheVariants.{Memory};
+    ghost use Rattle.dstm_cells.specs.declared.error.Why.TheVariants.{Memory};
 
     ghost from_gives = { λ _ e. e ≡ stop_by Memory };
 
     fn from(_e: AllocFailed<T>) -> Stop {
-        Stop { cause: Cause::Memory }
+        Stop { why: Why::Memory }
     }
 }

@@ -1,5 +1,5 @@
 // Each call once, by both engines, and what no clause says.
-use crate::{Cell, Engine, Failed, GaveUp, Manager, Memory, Word};
+use crate::{Cell, Engine, Failed, GaveUp, Manager, Memory, Word, ensure, retry};
 use std::process::Abort;
 use std::test::Fail;
 use std::thread::Threads;
@@ -103,8 +103,7 @@ fn waits<R: Abort + Threads + Sync>(rt: &R, memory: Memory) -> Result<(), Fail> 
             return me.atomically(|tx| tx.set(open, true));
         }
         me.atomically(|tx| {
-            let is_open = tx.get(open)?;
-            tx.ensure(is_open)?;
+            ensure(tx.get(open)?)?;
             tx.set(passed, 1)
         })
     })?;
@@ -129,6 +128,11 @@ fn fails<R: Abort + Threads + Sync>(rt: &R, memory: Memory, larger: Memory) -> R
         me.atomically(|tx| tx.ensure(false))
     });
     assert_eq!(rt; idle, Err(Failed::GaveUp(GaveUp::Idle)));
+    let waiting = memory.run(rt, 1, |me, _| {
+        me.set_looks(8);
+        me.atomically(|_| retry::<()>())
+    });
+    assert_eq!(rt; waiting, Err(Failed::GaveUp(GaveUp::Idle)));
     let strange = memory.run(rt, 1, |me, _| me.atomically(|tx| tx.set(foreign, 1)));
     assert_eq!(rt; strange, Err(Failed::GaveUp(GaveUp::Foreign)));
     assert_eq!(rt; memory.run(rt, 0, |_, _| Ok(())), Err(Failed::Threads));

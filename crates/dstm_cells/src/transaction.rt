@@ -48,8 +48,8 @@ pub trait Transaction: Drop {
 
     /// Leaves the attempt that a closure has stopped, and tells whether there may be another one.
     fn leave(&mut self, stop: Stop) -> Result<(), GaveUp>
-        ensures stays { StaysFor stop.cause (caller self.old) (caller self.new) }
-        ensures follows { Follows Self.Rule.holds (patience self.old) (caller self.old) stop.cause result };
+        ensures stays { StaysFor stop.why (caller self.old) (caller self.new) }
+        ensures follows { Follows Self.Rule.holds (patience self.old) (caller self.old) stop.why result };
 
     /// How often a transaction that retries looks at most whether something that it has read has changed.
     fn set_looks(&mut self, looks: u32)
@@ -108,8 +108,8 @@ impl<'a, L: Law> Transaction for Tx<'a, L> {
     }
 
     fn leave(&mut self, stop: Stop) -> Result<(), GaveUp> {
-        let Stop { cause } = stop;
-        let next = self.follow(cause);
+        let Stop { why } = stop;
+        let next = self.follow(why);
         self.attempts.abandon(self.table);
         next
     }

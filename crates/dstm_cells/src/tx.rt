@@ -8,11 +8,11 @@ ghost use Rattle.dstm_cells.specs.Cells.{ReadsAll};
 ghost use Rattle.dstm_cells.specs.Closures.{KeepsOnce};
 ghost use Rattle.dstm_cells.specs.UnderWay.{Changes, Gets, Refuses, StopsChange, StopsLook, stop_by};
 ghost use Rattle.dstm_cells.specs.declared.error.Failed.TheVariants as failed;
-ghost use Rattle.dstm_cells.specs.declared.error.Cause.TheVariants.{Retry};
+ghost use Rattle.dstm_cells.specs.declared.error.Why.TheVariants.{Retry};
 
 use crate::alternatives::or_else;
 use crate::cell::{Cell, Word};
-use crate::error::{Cause, Failed, GaveUp, Stop};
+use crate::error::{Failed, GaveUp, Stop, Why};
 use crate::transaction::Transaction;
 use crate::under_way::{Tx, Undo};
 use dstm_attempts::{Attempts, Look};
@@ -47,7 +47,7 @@ impl<'a, L: Law> Tx<'a, L> {
     /// What a cell holds.
     pub fn get<T: Word>(&mut self, cell: Cell<T>) -> Result<T, Stop>
         ensures keeps { Keeps self.old.attempts.caller self.new.attempts.caller }
-        ensures stops { IfErr result (λ stop. StopsLook L.holds cell.object self.old.attempts.caller self.new.attempts.caller stop.cause) }
+        ensures stops { IfErr result (λ stop. StopsLook L.holds cell.object self.old.attempts.caller self.new.attempts.caller stop.why) }
         ensures notes { Notes L.holds (noting self.old) (noting self.new) }
         ensures refuses { Refuses self.old.attempts.caller cell.object result }
         ensures gets { IfOk result (Gets L.holds T.found self.old.attempts.caller self.new.attempts.caller cell.object) }
@@ -59,7 +59,7 @@ impl<'a, L: Law> Tx<'a, L> {
     /// Puts a value into a cell.
     pub fn set<T: Word>(&mut self, cell: Cell<T>, value: T) -> Result<(), Stop>
         ensures keeps { Keeps self.old.attempts.caller self.new.attempts.caller }
-        ensures stops { IfErr result (λ stop. StopsChange L.holds self.old.notes cell.object self.old.attempts.caller self.new.attempts.caller stop.cause) }
+        ensures stops { IfErr result (λ stop. StopsChange L.holds self.old.notes cell.object self.old.attempts.caller self.new.attempts.caller stop.why) }
         ensures notes { Notes L.holds (noting self.old) (noting self.new) }
         ensures refuses { Refuses self.old.attempts.caller cell.object result }
         ensures puts { OnOk result ((had : T) × Changes L.holds T.found self.old.attempts.caller self.new.attempts.caller cell.object had value) }
@@ -71,7 +71,7 @@ impl<'a, L: Law> Tx<'a, L> {
     /// Puts a value into a cell, and answers what it held.
     pub fn replace<T: Word>(&mut self, cell: Cell<T>, value: T) -> Result<T, Stop>
         ensures keeps { Keeps self.old.attempts.caller self.new.attempts.caller }
-        ensures stops { IfErr result (λ stop. StopsChange L.holds self.old.notes cell.object self.old.attempts.caller self.new.attempts.caller stop.cause) }
+        ensures stops { IfErr result (λ stop. StopsChange L.holds self.old.notes cell.object self.old.attempts.caller self.new.attempts.caller stop.why) }
         ensures notes { Notes L.holds (noting self.old) (noting self.new) }
         ensures refuses { Refuses self.old.attempts.caller cell.object result }
         ensures puts { IfOk result (λ had. Changes L.holds T.found self.old.attempts.caller self.new.attempts.caller cell.object had value) }
@@ -84,7 +84,7 @@ impl<'a, L: Law> Tx<'a, L> {
     pub fn update<T: Word, F: FnOnce(T) -> T>(&mut self, cell: Cell<T>, f: F) -> Result<T, Stop>
         requires callable { F.IsAlwaysCallable f }
         ensures keeps { Keeps self.old.attempts.caller self.new.attempts.caller }
-        ensures stops { IfErr result (λ stop. StopsChange L.holds self.old.notes cell.object self.old.attempts.caller self.new.attempts.caller stop.cause) }
+        ensures stops { IfErr result (λ stop. StopsChange L.holds self.old.notes cell.object self.old.attempts.caller self.new.attempts.caller stop.why) }
         ensures notes { Notes L.holds (noting self.old) (noting self.new) }
         ensures refuses { Refuses self.old.attempts.caller cell.object result }
         ensures puts { IfOk result (λ had.
@@ -113,7 +113,7 @@ impl<'a, L: Law> Tx<'a, L> {
     // Opens an object for reading.
     fn read(&mut self, object: u32) -> Result<Val, Stop>
         ensures keeps { Keeps self.old.attempts.caller self.new.attempts.caller }
-        ensures stops { IfErr result (λ stop. StopsLook L.holds object self.old.attempts.caller self.new.attempts.caller stop.cause) }
+        ensures stops { IfErr result (λ stop. StopsLook L.holds object self.old.attempts.caller self.new.attempts.caller stop.why) }
         ensures notes { Notes L.holds (noting self.old) (noting self.new) }
         ensures refuses { Refuses self.old.attempts.caller object result }
         ensures finds { IfOk result (Finds L.holds self.old.attempts.caller self.new.attempts.caller object) }
@@ -127,7 +127,7 @@ impl<'a, L: Law> Tx<'a, L> {
     fn change<F: FnOnce(Val) -> Val>(&mut self, object: u32, f: F) -> Result<Val, Stop>
         requires callable { F.IsAlwaysCallable f }
         ensures keeps { Keeps self.old.attempts.caller self.new.attempts.caller }
-        ensures stops { IfErr result (λ stop. StopsChange L.holds self.old.notes object self.old.attempts.caller self.new.attempts.caller stop.cause) }
+        ensures stops { IfErr result (λ stop. StopsChange L.holds self.old.notes object self.old.attempts.caller self.new.attempts.caller stop.why) }
         ensures notes { Notes L.holds (noting self.old) (noting self.new) }
         ensures refuses { Refuses self.old.attempts.caller object result }
         ensures changes { IfOk result (λ had.
@@ -142,7 +142,7 @@ impl<'a, L: Law> Tx<'a, L> {
     // Sets an object, and opens it for writing where it is not open. It notes nothing.
     pub(crate) fn put(&mut self, object: u32, value: Val) -> Result<(), Stop>
         ensures keeps { Keeps self.old.attempts.caller self.new.attempts.caller }
-        ensures stops { IfErr result (λ stop. StopsChange L.holds false object self.old.attempts.caller self.new.attempts.caller stop.cause) }
+        ensures stops { IfErr result (λ stop. StopsChange L.holds false object self.old.attempts.caller self.new.attempts.caller stop.why) }
         ensures undos { self.new.undos.items ≡ self.old.undos.items }
         ensures notes { settings (noting self.new) ≡ settings (noting self.old) }
         ensures refuses { Refuses self.old.attempts.caller object result }
@@ -154,15 +154,15 @@ impl<'a, L: Law> Tx<'a, L> {
     }
 
     // What follows where a closure has stopped the attempt. After a retry it waits.
-    pub(crate) fn follow(&mut self, cause: Cause) -> Result<(), GaveUp>
-        ensures stays { StaysFor cause self.old.attempts.caller self.new.attempts.caller }
-        ensures follows { Follows L.holds self.old.looks self.old.attempts.caller cause result }
+    pub(crate) fn follow(&mut self, why: Why) -> Result<(), GaveUp>
+        ensures stays { StaysFor why self.old.attempts.caller self.new.attempts.caller }
+        ensures follows { Follows L.holds self.old.looks self.old.attempts.caller why result }
     {
-        match cause {
-            Cause::Again => Ok(()),
-            Cause::Retry => self.wait(),
-            Cause::Foreign => Err(GaveUp::Foreign),
-            Cause::Memory => Err(GaveUp::Memory),
+        match why {
+            Why::Again => Ok(()),
+            Why::Retry => self.wait(),
+            Why::Foreign => Err(GaveUp::Foreign),
+            Why::Memory => Err(GaveUp::Memory),
         }
     }
 
@@ -202,8 +202,8 @@ impl<'a, L: Law> Tx<'a, L> {
                         return Ok(values);
                     }
                 }
-                Err(Stop { cause: Cause::Again }) => {}
-                Err(Stop { cause: _ }) => return Err(Failed::Memory),
+                Err(Stop { why: Why::Again }) => {}
+                Err(Stop { why: _ }) => return Err(Failed::Memory),
             }
         }
         Err(Failed::Unread)
@@ -261,7 +261,7 @@ pub fn ensure(holds: bool) -> Result<(), Stop>
 pub fn retry<R>() -> Result<R, Stop>
     ensures { result ≡ Err (stop_by Retry) }
 {
-    Err(Stop { cause: Cause::Retry })
+    Err(Stop { why: Why::Retry })
 }
 
 // Notes, in an alternative, what an object had.

@@ -3,7 +3,7 @@ use Rattle.std.specs.Prelude.{Result}
 use Rattle.dstm_cells.specs.Alternatives.{Noting, StopsUndoing}
 use Rattle.dstm_cells.specs.UnderWay.{attempt, stop_by}
 use Rattle.dstm_cells.specs.declared.error.Stop.{Stop}
-use Rattle.dstm_cells.specs.declared.error.Cause.TheVariants.{Retry}
+use Rattle.dstm_cells.specs.declared.error.Why.TheVariants.{Retry}
 use Rattle.dstm_cells.proofs.Alternating.{First, called, leaves, left_notes, stopped, undone}
 use Rattle.dstm_cells.proofs.Calling.{err_is, once_at, once_kept}
 use Rattle.dstm_cells.proofs.Undoing.{notes_twice, undone_notes}

@@ -38,7 +38,7 @@ returns-in_err-leave-in-Err-clause-nothing g c keeps =
     (nothing_twice (caller c.loop-number.self.tx) (caller c.begin.new.self) (caller c.leave.new.self) c.begin.ensures.nothing
     (nothing_twice (caller c.begin.new.self) after (caller c.leave.new.self)
     (adds_nothing (caller c.begin.new.self) after (keeps _ _ _ _ _ call))
-    (stop_nothing c.in-Err.stop.cause after (caller c.leave.new.self) c.leave.ensures.stays).0)))
+    (stop_nothing c.in-Err.stop.why after (caller c.leave.new.self) c.leave.ensures.stays).0)))
 
 pub returns-in_err-leave-in-Err-clause-why : goal.returns-in_err-leave-in-Err-clause-why
 returns-in_err-leave-in-Err-clause-why g c keeps =
@@ -92,8 +92,8 @@ loop-number-preserved g c = (
             kept_nothing after (caller c.match-f.self.tx)
             (ap (λ (p : Part _). attempt (caller p.tx)) w.self-is ∙ w.commit.ensures.keeps w.if-commit.false)
         | in-Err+in_ok-leave-in-Err w ↦
-            stop_nothing w.in-Err.stop.cause after (caller c.match-f.self.tx)
-            (subst (λ (p : Part _). StaysFor w.in-Err.stop.cause after (caller p.tx)) (sym w.self-is) w.leave.ensures.stays)
+            stop_nothing w.in-Err.stop.why after (caller c.match-f.self.tx)
+            (subst (λ (p : Part _). StaysFor w.in-Err.stop.why after (caller p.tx)) (sym w.self-is) w.leave.ensures.stays)
       ] in
       let same = begins_none (caller c.begin.new.self) after called in
       let one_more = c.in_ok-begin.ensures.begins.begun in

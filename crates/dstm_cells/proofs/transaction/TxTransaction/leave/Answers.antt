@@ -3,5 +3,5 @@ use Rattle.dstm_cells.proofs.transaction.TxTransaction.leave.Goals as goal
 
 pub returns-clause-stays : goal.returns-clause-stays
 returns-clause-stays g c =
-    stop_kept c.args.stop.cause c.args.self.now.attempts.caller c.follow-next.new.self.attempts.caller c.abandon.new.self.caller
+    stop_kept c.args.stop.why c.args.self.now.attempts.caller c.follow-next.new.self.attempts.caller c.abandon.new.self.caller
     c.follow-next.ensures.stays c.abandon.ensures.keeps

@@ -1,7 +1,7 @@
 use Rattle.std.proofs.Common.{◌∙◌, Ok, refl, subst, sym}
 use Rattle.dstm_attempts.proofs.UnderWay.{exchanges, found_unset}
 use Rattle.dstm_cells.specs.UnderWay.{Refuses, StopsChange, stop_by, stop_for}
-use Rattle.dstm_cells.specs.declared.error.Cause.TheVariants.{Memory}
+use Rattle.dstm_cells.specs.declared.error.Why.TheVariants.{Memory}
 use Rattle.dstm_cells.proofs.Calling.{err_is, is_err}
 use Rattle.dstm_cells.proofs.Stopping.{refuses_none, refuses_why, stops_change}
 use Rattle.dstm_cells.proofs.Undoing.{notes_nothing, notes_one}
@@ -12,7 +12,7 @@ returns-in_err-value-clause-stops g c =
     let why = c.in_err-value.field-0.0 in
     let k = c.args.self.now.attempts.caller in
     let n = c.write.new.self.caller in
-    is_err c.from_residual.result (stop_for why) (λ stop. StopsChange g.L.Law.holds c.args.self.now.notes c.args.object k n stop.cause)
+    is_err c.from_residual.result (stop_for why) (λ stop. StopsChange g.L.Law.holds c.args.self.now.notes c.args.object k n stop.why)
     c.from_residual.ensures.1
     (stops_change g.L.Law.holds c.args.self.now.notes c.args.object k n why c.in_err-value.ensures.stops)
 
@@ -33,7 +33,7 @@ returns-in_err-note_undo-clause-stops g c =
     let k = c.args.self.now.attempts.caller in
     let n = c.write.new.self.caller in
     is_err c.from_residual-in_err-note_undo.result (stop_by Memory)
-    (λ stop. StopsChange g.L.Law.holds c.args.self.now.notes c.args.object k n stop.cause) c.from_residual-in_err-note_undo.ensures.1
+    (λ stop. StopsChange g.L.Law.holds c.args.self.now.notes c.args.object k n stop.why) c.from_residual-in_err-note_undo.ensures.1
     (c.in_err-note_undo.ensures.failed.0, found_unset g.L.Law.holds k n c.args.object c.in_ok-value.value c.in_ok-value.ensures.finds)
 
 pub returns-in_err-note_undo-clause-refuses : goal.returns-in_err-note_undo-clause-refuses

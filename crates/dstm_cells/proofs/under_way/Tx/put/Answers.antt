@@ -10,7 +10,7 @@ returns-in_err-_old-clause-stops g c =
     let why = c.in_err-_old.field-0.0 in
     let k = c.args.self.now.attempts.caller in
     let n = c.write.new.self.caller in
-    is_err c.from_residual.result (stop_for why) (λ stop. StopsChange g.L.Law.holds false c.args.object k n stop.cause) c.from_residual.ensures.1
+    is_err c.from_residual.result (stop_for why) (λ stop. StopsChange g.L.Law.holds false c.args.object k n stop.why) c.from_residual.ensures.1
     (stops_change g.L.Law.holds false c.args.object k n why c.in_err-_old.ensures.stops)
 
 pub returns-in_err-_old-clause-refuses : goal.returns-in_err-_old-clause-refuses

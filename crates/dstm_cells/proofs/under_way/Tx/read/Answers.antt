@@ -11,7 +11,7 @@ returns-in_err-value-clause-stops g c =
     let why = c.in_err-value.field-0.0 in
     let k = c.args.self.now.attempts.caller in
     let n = c.read.new.self.caller in
-    is_err c.from_residual.result (stop_for why) (λ stop. StopsLook g.L.Law.holds c.args.object k n stop.cause) c.from_residual.ensures.1
+    is_err c.from_residual.result (stop_for why) (λ stop. StopsLook g.L.Law.holds c.args.object k n stop.why) c.from_residual.ensures.1
     (stops_look g.L.Law.holds c.args.object k n why c.in_err-value.ensures.stops)
 
 pub returns-in_err-value-clause-refuses : goal.returns-in_err-value-clause-refuses
