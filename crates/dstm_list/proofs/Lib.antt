@@ -6,3 +6,4 @@ pub mod Operations
 pub mod Lists
 pub mod Walked
 pub mod Reading
+pub mod Layouts

@@ -8,18 +8,17 @@ use Rattle.std.proofs.lemmas.Bool.{ne_eqb, eq-eqb}
 use Rattle.std.proofs.lemmas.List.{length-map, length-append}
 use Rattle.std.proofs.lemmas.List.Sorted.{IsPermutation-sym, IsPermutation-trans}
 use Rattle.dstm_model.specs.declared.value.Val.{Val}
-use Rattle.dstm_model.specs.declared.layout.Layout.{Layout}
-use Rattle.dstm_model.specs.declared.op.Which.TheVariants as which
-use Rattle.dstm_model.specs.declared.op.Op.TheVariants.{Insert, Remove, Member}
 use Rattle.dstm_model.specs.declared.reply.Reply.TheVariants.{Yes, No, Full}
-use Rattle.dstm_model.specs.Layout.{IsValid}
 use Rattle.dstm_model.specs.Map.{value_at}
-use Rattle.dstm_model.specs.Store.{Store, has_key, with_key, without_key, yes_or_no}
-use Rattle.dstm_model.specs.Objects.{Does, list_begin, tree_begin, free_object, node_object, plain}
+use Rattle.dstm_model.specs.Store.{has_key, with_key, without_key, yes_or_no}
+use Rattle.dstm_model.specs.Objects.{free_object, node_object, plain}
+use Rattle.dstm_region.specs.declared.region.Region.{Region}
+use Rattle.dstm_region.specs.Region.{IsInside, size_of}
 use Rattle.dstm_list.specs.declared.node.Node.{Node}
 use Rattle.dstm_list.specs.declared.walk.Place.{Place}
-use Rattle.dstm_list.specs.List.{Cell, IsList, IsChain, IsFreeChain, IsOfList, numbers_of, keys_of, first_of, node}
+use Rattle.dstm_list.specs.List.{Cell, FitsList, HasKeys, IsChain, IsFreeChain, numbers_of, keys_of, first_of, node}
 use Rattle.dstm_list.specs.List.{next_of, nodes_to}
+use Rattle.dstm_list.specs.Edits.{Adds, TakesOut, Tells}
 use Rattle.dstm_list.specs.Place.{Finds, IsPlace, IsFirst, AllLess, AllGreater, link_after, key_after}
 use Rattle.dstm_list.proofs.Keys.{Rise, increasing-of_Rise, Rise-insert, Rise-remove, has_key-behind, has_key-greater}
 use Rattle.dstm_list.proofs.Keys.{has_key-first, with_key-between, without_key-first, without_key-absent}
@@ -37,64 +36,62 @@ has_key-at key (Some found) behind [] less here = absurd here
 has_key-at key (Some found) behind (c ∷ cs) less here =
     has_key-behind key behind (c ∷ cs) less ∙ has_key-first key c cs here.0
 
-pub has_key-found : {layout : Layout} {values : List Val} {store : Store} {key : ℕ} {place : Place}
-    (list : IsList layout values store) → IsPlace (list_begin layout) key place list.cells →
-    has_key key store.keys ≡ is_some place.node
+pub has_key-found : {region : Region} {values : List Val} {held : List ℕ} {key : ℕ} {place : Place}
+    (list : HasKeys region values held) → IsPlace region.first key place list.cells →
+    has_key key held ≡ is_some place.node
 has_key-found {key = key} {place = place} list found =
     let stands = found.stands in
     ap (has_key key) (list.keys ∙ ap keys_of stands.split)
     ∙ has_key-at key place.node stands.behind stands.ahead stands.lesser found.here
 
-pub does-member : {layout : Layout} {values : List Val} (key : ℕ) (place : Place) (b : Bool) →
-    Finds layout values key place → is_some place.node ≡ b →
-    Does (IsList layout) (Member which.List key) values values (yes_or_no b)
-does-member key place b finds is store list = (ap yes_or_no (sym (has_key-found list (finds store list) ∙ is)), list)
+pub does-member : {region : Region} {values : List Val} (key : ℕ) (place : Place) (b : Bool) →
+    Finds region values key place → is_some place.node ≡ b →
+    Tells region key (yes_or_no b) values values
+does-member key place b finds is held list = (ap yes_or_no (sym (has_key-found list (finds held list) ∙ is)), list)
 
 -- ---- a key that is there is not inserted, and one that is absent is not removed
 
-pub does-no_insert : {layout : Layout} {values : List Val} (key : ℕ) (place : Place) →
-    Finds layout values key place → is_some place.node ≡ true →
-    Does (IsList layout) (Insert which.List key) values values No
-does-no_insert key place finds is store list =
-    let has : has_key key store.keys ≡ true = has_key-found list (finds store list) ∙ is in
+pub does-no_insert : {region : Region} {values : List Val} (key : ℕ) (place : Place) →
+    Finds region values key place → is_some place.node ≡ true →
+    Adds region key No values values
+does-no_insert key place finds is held list =
+    let has : has_key key held ≡ true = has_key-found list (finds held list) ∙ is in
     rw has (refl, list)
 
-pub does-no_remove : {layout : Layout} {values : List Val} (key : ℕ) (place : Place) →
-    Finds layout values key place → place.node ≡ None → Does (IsList layout) (Remove which.List key) values values No
-does-no_remove {layout} {values} key place finds is store list =
-    let found = finds store list in
+pub does-no_remove : {region : Region} {values : List Val} (key : ℕ) (place : Place) →
+    Finds region values key place → place.node ≡ None → TakesOut region key No values values
+does-no_remove {region} {values} key place finds is held list =
+    let found = finds held list in
     let stands = found.stands in
-    let has : has_key key store.keys ≡ false = has_key-found list found ∙ ap is_some is in
+    let has : has_key key held ≡ false = has_key-found list found ∙ ap is_some is in
     let greater : AllGreater key stands.ahead = subst (λ o. IsFirst key o stands.ahead) is found.here in
     let keys = list.keys ∙ ap keys_of stands.split in
-    let kept : without_key key store.keys ≡ store.keys =
+    let kept : without_key key held ≡ held =
     ap (without_key key) keys ∙ without_key-absent key stands.behind stands.ahead stands.lesser greater
     ∙ sym keys in (
       ap yes_or_no (sym has),
-      subst (λ (ks : List ℕ). IsList layout values (record store { keys = ks })) (sym kept) list,
+      subst (λ (ks : List ℕ). HasKeys region values ks) (sym kept) list,
     )
 
 -- ---- the parts of a list
 
 -- a list whose chains are these
-pub record Parts (layout : Layout) (values : List Val) (store : Store) (cells : List Cell)
+pub record Parts (region : Region) (values : List Val) (held : List ℕ) (cells : List Cell)
     (free : List ℕ) : Type 0 where
-  pub capacity : store.layout.list ≡ layout.list
-  pub keys : store.keys ≡ keys_of cells
+  pub keys : held ≡ keys_of cells
   pub rise : Rise 0 cells
-  pub head : value_at values (list_begin layout) ≡ node 0 (first_of (numbers_of cells))
-  pub chain : IsChain (list_begin layout) values cells
-  pub free_head : value_at values (free_object (list_begin layout)) ≡ plain (first_of free)
-  pub free_chain : IsFreeChain (list_begin layout) values free
-  pub once : IsPermutation (nodes_to layout.list) (numbers_of cells ++ free)
+  pub head : value_at values region.first ≡ node 0 (first_of (numbers_of cells))
+  pub chain : IsChain region.first values cells
+  pub free_head : value_at values (free_object region.first) ≡ plain (first_of free)
+  pub free_chain : IsFreeChain region.first values free
+  pub once : IsPermutation (nodes_to region.nodes) (numbers_of cells ++ free)
 
 node-zero : (n : ℕ) → node 0 n ≡ plain n
 node-zero n = ap plain (omega arith)
 
-parts_of : {layout : Layout} {values : List Val} {store : Store} → 0 < layout.list →
-    (list : IsList layout values store) → Parts layout values store list.cells list.free
+parts_of : {region : Region} {values : List Val} {held : List ℕ} → 0 < region.nodes →
+    (list : HasKeys region values held) → Parts region values held list.cells list.free
 parts_of declared list = record {
-  capacity = list.capacity;
   keys = list.keys;
   rise = rise_of list;
   head = list.head declared ∙ sym (node-zero (first_of (numbers_of list.cells)));
@@ -104,12 +101,11 @@ parts_of declared list = record {
   once = IsPermutation-sym _ _ list.once;
 }
 
-list_of : {layout : Layout} {values : List Val} {store : Store} {cells : List Cell} {free : List ℕ} →
-    Parts layout values store cells free → IsList layout values store
+list_of : {region : Region} {values : List Val} {held : List ℕ} {cells : List Cell} {free : List ℕ} →
+    Parts region values held cells free → HasKeys region values held
 list_of {cells = cells} {free = free} parts = record {
   cells = cells;
   free = free;
-  capacity = parts.capacity;
   keys = parts.keys;
   rising = subst IsStrictlyIncreasing (sym parts.keys) (increasing-of_Rise 0 cells parts.rise);
   head = λ _. parts.head ∙ node-zero (first_of (numbers_of cells));
@@ -120,25 +116,25 @@ list_of {cells = cells} {free = free} parts = record {
 }
 
 -- the keys are as many as the nodes that are not free
-used-free : {layout : Layout} {values : List Val} {store : Store} {cells : List Cell} {free : List ℕ} →
-    Parts layout values store cells free → length store.keys + length free ≡ layout.list
-used-free {layout} {store = store} {cells = cells} {free = free} parts =
-    let all = as_many layout.list (numbers_of cells ++ free) parts.once in
+used-free : {region : Region} {values : List Val} {held : List ℕ} {cells : List Cell} {free : List ℕ} →
+    Parts region values held cells free → length held + length free ≡ region.nodes
+used-free {region} {held = held} {cells = cells} {free = free} parts =
+    let all = as_many region.nodes (numbers_of cells ++ free) parts.once in
     let used = length-append (numbers_of cells) free in
     let numbers = length-map cells (λ (c : Cell). c.number) in
     let keys = ap length parts.keys ∙ length-map cells (λ (c : Cell). c.key) in
     omega (arith, all, used, numbers, keys)
 
 -- the number in the head of the free chain is that of the first free node
-pub first_free : {layout : Layout} {values : List Val} {store : Store} (n : ℕ) → IsValid layout →
-    0 < layout.list →
-    (list : IsList layout values store) → n ≡ next_of (value_at values (free_object (list_begin layout))) →
-    (n ≡ first_of list.free) × (n ≤ layout.list)
-first_free {layout} n valid declared list is =
-    let in_range = each-right (IsNumber layout.list) (numbers_of list.cells) list.free (used_within list) in
-    let small = first_within layout.list list.free in_range in
+pub first_free : {region : Region} {values : List Val} {held : List ℕ} (n : ℕ) → FitsList region →
+    0 < region.nodes →
+    (list : HasKeys region values held) → n ≡ next_of (value_at values (free_object region.first)) →
+    (n ≡ first_of list.free) × (n ≤ region.nodes)
+first_free {region} n fits declared list is =
+    let in_range = each-right (IsNumber region.nodes) (numbers_of list.cells) list.free (used_within list) in
+    let small = first_within region.nodes list.free in_range in
     let low = ap (λ v. v.low) (list.free_head declared) in
-    (omega (arith, is, low, small, valid.list), omega (arith, is, low, small, valid.list))
+    (omega (arith, is, low, small, fits.few), omega (arith, is, low, small, fits.few))
 
 pub none_free : (n : ℕ) (free : List ℕ) → Each (IsNumber n) free → first_of free ≡ 0 → length free ≡ 0
 none_free n [] each none = refl
@@ -148,17 +144,17 @@ some_free : (n : ℕ) (free : List ℕ) → n ≡ first_of free → n ≢ 0 → 
 some_free n [] is some = absurd (some is)
 some_free n (i ∷ is) same some = (is, ap (λ j. j ∷ is) (sym same))
 
-pub does-full : {layout : Layout} {values : List Val} (key n : ℕ) (place : Place) → IsValid layout →
-    0 < layout.list → Finds layout values key place → is_some place.node ≡ false →
-    n ≡ next_of (value_at values (free_object (list_begin layout))) → n ≡ 0 →
-    Does (IsList layout) (Insert which.List key) values values Full
-does-full {layout} key n place valid declared finds is free none store list =
-    let has : has_key key store.keys ≡ false = has_key-found list (finds store list) ∙ is in
-    let in_range = each-right (IsNumber layout.list) (numbers_of list.cells) list.free (used_within list) in
-    let no_free = none_free layout.list list.free in_range (sym (first_free n valid declared list free).0 ∙ none) in
+pub does-full : {region : Region} {values : List Val} (key n : ℕ) (place : Place) → FitsList region →
+    0 < region.nodes → Finds region values key place → is_some place.node ≡ false →
+    n ≡ next_of (value_at values (free_object region.first)) → n ≡ 0 →
+    Adds region key Full values values
+does-full {region} key n place fits declared finds is free none held list =
+    let has : has_key key held ≡ false = has_key-found list (finds held list) ∙ is in
+    let in_range = each-right (IsNumber region.nodes) (numbers_of list.cells) list.free (used_within list) in
+    let no_free = none_free region.nodes list.free in_range (sym (first_free n fits declared list free).0 ∙ none) in
     let all = used-free (parts_of declared list) in
-    let full : (length store.keys == store.layout.list) ≡ true =
-    eq-eqb (length store.keys) store.layout.list (omega (arith, all, no_free, list.capacity)) in
+    let full : (length held == region.nodes) ≡ true =
+    eq-eqb (length held) region.nodes (omega (arith, all, no_free)) in
     rw (has, full) (refl, list)
 
 -- ---- a key goes in
@@ -169,23 +165,23 @@ with_node values begin i key next link last rest =
     slice_set (slice_set (slice_set values (node_object begin i) (node key next)) (free_object begin) rest) link
     (node last i)
 
-inserted : {layout : Layout} {values : List Val} {store : Store} (c : Cell) (behind ahead : List Cell)
-    (free : List ℕ) (link : ℕ) (rest : Val) → 0 < layout.list → tree_begin layout ≤ length values →
-    Parts layout values store (behind ++ ahead) (c.number ∷ free) → AllLess c.key behind → AllGreater c.key ahead →
-    link ≡ link_after (list_begin layout) (list_begin layout) behind → IsOfList layout link →
-    value_at values (node_object (list_begin layout) c.number) ≡ rest → Parts layout
-    (with_node values (list_begin layout) c.number c.key (first_of (numbers_of ahead)) link (key_after 0 behind) rest)
-    (record store { keys = with_key c.key store.keys }) (behind ++ c ∷ ahead) free
-inserted {layout} {values} {store} c behind ahead free link rest declared in_map parts less greater is_link link_in
+inserted : {region : Region} {values : List Val} {held : List ℕ} (c : Cell) (behind ahead : List Cell)
+    (free : List ℕ) (link : ℕ) (rest : Val) → 0 < region.nodes → region.first + size_of region ≤ length values →
+    Parts region values held (behind ++ ahead) (c.number ∷ free) → AllLess c.key behind → AllGreater c.key ahead →
+    link ≡ link_after region.first region.first behind → IsInside region link →
+    value_at values (node_object region.first c.number) ≡ rest → Parts region
+    (with_node values region.first c.number c.key (first_of (numbers_of ahead)) link (key_after 0 behind) rest)
+    (with_key c.key held) (behind ++ c ∷ ahead) free
+inserted {region} {values} {held} c behind ahead free link rest declared in_map parts less greater is_link link_in
     had =
-    let n = layout.list in
-    let begin = list_begin layout in
+    let n = region.nodes in
+    let begin = region.first in
     let i = c.number in
     let once = IsPermutation-trans _ _ _ parts.once (split-free behind ahead i free) in
     let number_in = (within n (i ∷ (numbers_of behind ++ (numbers_of ahead ++ free))) once).0.1 in
     let differ = objects_apart n begin i behind ahead free once in
-    let node_in = node-of_list layout i declared number_in in
-    let free_in = node-of_list layout 0 declared (omega arith) in
+    let node_in = node-of_list region i declared number_in in
+    let free_in = node-of_list region 0 declared (omega arith) in
     let changed = Changed-of_sets values (node_object begin i) (free_object begin) link
     (node c.key (first_of (numbers_of ahead))) rest (node (key_after 0 behind) i)
     (omega (arith, node_in.1, in_map)) (omega (arith, free_in.1, in_map)) (omega (arith, link_in.1, in_map))
@@ -200,7 +196,6 @@ inserted {layout} {values} {store} c behind ahead free link rest declared in_map
           (IsChain-right begin values behind ahead parts.chain),
     ) in
     record {
-      capacity = parts.capacity;
       keys = ap (with_key c.key) parts.keys ∙ with_key-between c behind ahead less greater;
       rise = Rise-insert 0 c behind ahead (omega arith) less greater parts.rise;
       head = linked.0;
@@ -215,23 +210,23 @@ greater_of : (key : ℕ) (found : Option Node) (cells : List Cell) → is_some f
 greater_of key None cells is here = here
 greater_of key (Some found) cells is here = absurd (cc is)
 
-pub does-insert : {layout : Layout} {values : List Val} (key n : ℕ) (place : Place) (rest : Val) →
-    IsValid layout → 0 < layout.list → tree_begin layout ≤ length values → Finds layout values key place →
+pub does-insert : {region : Region} {values : List Val} (key n : ℕ) (place : Place) (rest : Val) →
+    FitsList region → 0 < region.nodes → region.first + size_of region ≤ length values → Finds region values key place →
     is_some place.node ≡ false →
-    IsOfList layout place.link → n ≡ next_of (value_at values (free_object (list_begin layout))) → n ≢ 0 →
-    value_at values (node_object (list_begin layout) n) ≡ rest → Does (IsList layout) (Insert which.List key) values
-    (with_node values (list_begin layout) n key place.before.next place.link place.before.key rest) Yes
-does-insert {layout} {values} key n place rest valid declared in_map finds is link_in free some had store list =
-    let found = finds store list in
+    IsInside region place.link → n ≡ next_of (value_at values (free_object region.first)) → n ≢ 0 →
+    value_at values (node_object region.first n) ≡ rest → Adds region key Yes values
+    (with_node values region.first n key place.before.next place.link place.before.key rest)
+does-insert {region} {values} key n place rest fits declared in_map finds is link_in free some had held list =
+    let found = finds held list in
     let stands = found.stands in
-    let has : has_key key store.keys ≡ false = has_key-found list found ∙ is in
-    let (tail, free_is) = some_free n list.free (first_free n valid declared list free).0 some in
+    let has : has_key key held ≡ false = has_key-found list found ∙ is in
+    let (tail, free_is) = some_free n list.free (first_free n fits declared list free).0 some in
     let c : Cell = record { number = n; key = key } in
-    let parts = subst (λ is. Parts layout values store (stands.behind ++ stands.ahead) is) free_is
-    (subst (λ cs. Parts layout values store cs list.free) stands.split (parts_of declared list)) in
+    let parts = subst (λ is. Parts region values held (stands.behind ++ stands.ahead) is) free_is
+    (subst (λ cs. Parts region values held cs list.free) stands.split (parts_of declared list)) in
     let all = used-free parts in
-    let room : (length store.keys == store.layout.list) ≡ false =
-    ne_eqb (length store.keys) store.layout.list (λ e. omega (arith, all, e, list.capacity)) in
+    let room : (length held == region.nodes) ≡ false =
+    ne_eqb (length held) region.nodes (λ e. omega (arith, all, e)) in
     let after = inserted c stands.behind stands.ahead tail place.link rest declared in_map parts stands.lesser
     (greater_of key place.node stands.ahead is found.here) stands.link link_in had in
     rw (has, room, stands.next, stands.last) (refl, list_of after)
@@ -244,23 +239,23 @@ without_node values begin i next link last rest =
     slice_set (slice_set (slice_set values (free_object begin) (node 0 i)) (node_object begin i) rest) link
     (node last next)
 
-removed : {layout : Layout} {values : List Val} {store : Store} (c : Cell) (behind ahead : List Cell)
-    {free : List ℕ} (link : ℕ) (rest : Val) → 0 < layout.list → tree_begin layout ≤ length values →
-    Parts layout values store (behind ++ c ∷ ahead) free → AllLess c.key behind →
-    link ≡ link_after (list_begin layout) (list_begin layout) behind → IsOfList layout link →
-    value_at values (free_object (list_begin layout)) ≡ rest → Parts layout
-    (without_node values (list_begin layout) c.number (first_of (numbers_of ahead)) link (key_after 0 behind) rest)
-    (record store { keys = without_key c.key store.keys }) (behind ++ ahead) (c.number ∷ free)
-removed {layout} {values} {store} c behind ahead {free = free} link rest declared in_map parts less is_link link_in
+removed : {region : Region} {values : List Val} {held : List ℕ} (c : Cell) (behind ahead : List Cell)
+    {free : List ℕ} (link : ℕ) (rest : Val) → 0 < region.nodes → region.first + size_of region ≤ length values →
+    Parts region values held (behind ++ c ∷ ahead) free → AllLess c.key behind →
+    link ≡ link_after region.first region.first behind → IsInside region link →
+    value_at values (free_object region.first) ≡ rest → Parts region
+    (without_node values region.first c.number (first_of (numbers_of ahead)) link (key_after 0 behind) rest)
+    (without_key c.key held) (behind ++ ahead) (c.number ∷ free)
+removed {region} {values} {held} c behind ahead {free = free} link rest declared in_map parts less is_link link_in
     had =
-    let n = layout.list in
-    let begin = list_begin layout in
+    let n = region.nodes in
+    let begin = region.first in
     let i = c.number in
     let once = IsPermutation-trans _ _ _ parts.once (split-used behind c ahead free) in
     let number_in = (within n (i ∷ (numbers_of behind ++ (numbers_of ahead ++ free))) once).0.1 in
     let differ = objects_apart n begin i behind ahead free once in
-    let node_in = node-of_list layout i declared number_in in
-    let free_in = node-of_list layout 0 declared (omega arith) in
+    let node_in = node-of_list region i declared number_in in
+    let free_in = node-of_list region 0 declared (omega arith) in
     let changed = Changed-of_sets values (free_object begin) (node_object begin i) link
     (node 0 i) rest (node (key_after 0 behind) (first_of (numbers_of ahead)))
     (omega (arith, free_in.1, in_map)) (omega (arith, node_in.1, in_map)) (omega (arith, link_in.1, in_map))
@@ -274,7 +269,6 @@ removed {layout} {values} {store} c behind ahead {free = free} link rest declare
     (ap (value_at after) (sym is_link) ∙ changed.third_is)
     (IsChain-same begin values after ahead kept.ahead_same chain.1) in
     record {
-      capacity = parts.capacity;
       keys = ap (without_key c.key) parts.keys ∙ without_key-first c behind ahead less;
       rise = Rise-remove 0 c behind ahead parts.rise;
       head = linked.0;
@@ -301,23 +295,24 @@ first_cell key found [] here = absurd here
 first_cell key found (c ∷ cs) here =
     record { cell = c; rest = cs; cells_are = refl; key_is = sym here.0; next_is = here.1 }
 
-pub does-remove : {layout : Layout} {values : List Val} (key : ℕ) (place : Place) (found : Node) (rest : Val) →
-    0 < layout.list → tree_begin layout ≤ length values → Finds layout values key place → place.node ≡ Some found →
-    IsOfList layout place.link → value_at values (free_object (list_begin layout)) ≡ rest →
-    Does (IsList layout) (Remove which.List key) values
-    (without_node values (list_begin layout) place.before.next found.next place.link place.before.key rest) Yes
-does-remove {layout} {values} key place found rest declared in_map finds is link_in had store list =
-    let at = finds store list in
+pub does-remove : {region : Region} {values : List Val} (key : ℕ) (place : Place) (found : Node) (rest : Val) →
+    0 < region.nodes → region.first + size_of region ≤ length values → Finds region values key place →
+    place.node ≡ Some found →
+    IsInside region place.link → value_at values (free_object region.first) ≡ rest →
+    TakesOut region key Yes values
+    (without_node values region.first place.before.next found.next place.link place.before.key rest)
+does-remove {region} {values} key place found rest declared in_map finds is link_in had held list =
+    let at = finds held list in
     let stands = at.stands in
-    let has : has_key key store.keys ≡ true = has_key-found list at ∙ ap is_some is in
+    let has : has_key key held ≡ true = has_key-found list at ∙ ap is_some is in
     let here = first_cell key found stands.ahead (subst (λ o. IsFirst key o stands.ahead) is at.here) in
     let c = here.cell in
-    let parts = subst (λ cs. Parts layout values store (stands.behind ++ cs) list.free) here.cells_are
-    (subst (λ cs. Parts layout values store cs list.free) stands.split (parts_of declared list)) in
+    let parts = subst (λ cs. Parts region values held (stands.behind ++ cs) list.free) here.cells_are
+    (subst (λ cs. Parts region values held cs list.free) stands.split (parts_of declared list)) in
     let number : place.before.next ≡ c.number = stands.next ∙ ap (λ cs. first_of (numbers_of cs)) here.cells_are in
     let after = removed c stands.behind here.rest place.link rest declared in_map parts
     (subst (λ k. AllLess k stands.behind) here.key_is stands.lesser) stands.link link_in had in
-    let begin = list_begin layout in
+    let begin = region.first in
     let link = place.link in
     let maps : without_node values begin place.before.next found.next link place.before.key rest
     ≡ without_node values begin c.number (first_of (numbers_of here.rest)) link (key_after 0 stands.behind) rest =
@@ -326,8 +321,8 @@ does-remove {layout} {values} key place found rest declared in_map finds is link
     ∙ ap (λ last. without_node values begin c.number (first_of (numbers_of here.rest)) link last rest) stands.last in
     let now = without_node values begin c.number (first_of (numbers_of here.rest)) link
     (key_after 0 stands.behind) rest in
-    let still = subst (λ k. IsList layout now (record store { keys = without_key k store.keys })) (sym here.key_is)
+    let still = subst (λ k. HasKeys region now (without_key k held)) (sym here.key_is)
     (list_of after) in (
       ap yes_or_no (sym has),
-      subst (λ now. IsList layout now (record store { keys = without_key key store.keys })) (sym maps) still,
+      subst (λ now. HasKeys region now (without_key key held)) (sym maps) still,
     )

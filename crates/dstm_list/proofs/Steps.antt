@@ -8,33 +8,31 @@ use Rattle.std.proofs.lemmas.Bool.{ne_eqb, eq-eqb, cases_eq}
 use Rattle.std.proofs.lemmas.List.{append_assoc, map-append}
 use Rattle.std.proofs.lemmas.List.Sorted.{IsPermutation-sym}
 use Rattle.dstm_model.specs.declared.value.Val.{Val}
-use Rattle.dstm_model.specs.declared.layout.Layout.{Layout}
-use Rattle.dstm_model.specs.Layout.{IsValid}
 use Rattle.dstm_model.specs.Map.{value_at}
-use Rattle.dstm_model.specs.Store.{Store}
-use Rattle.dstm_model.specs.Objects.{list_begin, node_object}
-use Rattle.dstm_model.proofs.Objects.{structure_objects-declared}
+use Rattle.dstm_model.specs.Objects.{node_object}
+use Rattle.dstm_region.specs.declared.region.Region.{Region}
+use Rattle.dstm_region.specs.Region.{IsInside}
 use Rattle.dstm_list.specs.declared.node.Node.{Node}
 use Rattle.dstm_list.specs.declared.walk.Place.{Place}
-use Rattle.dstm_list.specs.List.{Cell, IsList, IsChain, IsOfList, numbers_of, first_of, node, key_of, next_of}
+use Rattle.dstm_list.specs.List.{Cell, FitsList, HasKeys, IsChain, numbers_of, first_of, node, key_of, next_of}
 use Rattle.dstm_list.specs.Place.{Stands, IsPlace, IsFirst, AllLess, AllGreater, link_after, key_after}
 use Rattle.dstm_list.proofs.Keys.{Rise, Rise-of_increasing, Rise-after, Rise-next, AllGreater-of_Rise}
 use Rattle.dstm_list.proofs.Numbers.{IsNumber, within, each-left, each-right}
 
--- ---- the list's objects
+-- ---- the region's objects
 
-pub head-of_list : (layout : Layout) → 0 < layout.list → IsOfList layout (list_begin layout)
-head-of_list layout declared = (omega arith, omega (arith, structure_objects-declared layout.list declared))
+pub head-of_list : (region : Region) → 0 < region.nodes → IsInside region region.first
+head-of_list region declared = (omega arith, omega arith)
 
-pub node-of_list : (layout : Layout) (i : ℕ) → 0 < layout.list → i ≤ layout.list →
-    IsOfList layout (node_object (list_begin layout) i)
-node-of_list layout i declared h = (omega arith, omega (arith, structure_objects-declared layout.list declared, h))
+pub node-of_list : (region : Region) (i : ℕ) → 0 < region.nodes → i ≤ region.nodes →
+    IsInside region (node_object region.first i)
+node-of_list region i declared h = (omega arith, omega (arith, h))
 
 -- ---- numbers on the chains
 
-pub used_within : {layout : Layout} {values : List Val} {store : Store} (list : IsList layout values store) →
-    Each (IsNumber layout.list) (numbers_of list.cells ++ list.free)
-used_within {layout} list = within layout.list (numbers_of list.cells ++ list.free) (IsPermutation-sym _ _ list.once)
+pub used_within : {region : Region} {values : List Val} {held : List ℕ} (list : HasKeys region values held) →
+    Each (IsNumber region.nodes) (numbers_of list.cells ++ list.free)
+used_within {region} list = within region.nodes (numbers_of list.cells ++ list.free) (IsPermutation-sym _ _ list.once)
 
 pub first_within : (n : ℕ) (is : List ℕ) → Each (IsNumber n) is → first_of is ≤ n
 first_within n [] each = omega arith
@@ -46,44 +44,44 @@ IsChain-right begin values [] ahead chain = chain
 IsChain-right begin values (c ∷ cs) ahead chain = IsChain-right begin values cs ahead chain.1
 
 -- the numbers ahead of a walk
-ahead_within : {layout : Layout} {values : List Val} {store : Store} {key object : ℕ} {before : Node}
-    (list : IsList layout values store) (stands : Stands (list_begin layout) key object before list.cells) →
-    Each (IsNumber layout.list) (numbers_of stands.ahead)
-ahead_within {layout} list stands =
-    let cells_within = each-left (IsNumber layout.list) (numbers_of list.cells) list.free (used_within list) in
+ahead_within : {region : Region} {values : List Val} {held : List ℕ} {key object : ℕ} {before : Node}
+    (list : HasKeys region values held) (stands : Stands region.first key object before list.cells) →
+    Each (IsNumber region.nodes) (numbers_of stands.ahead)
+ahead_within {region} list stands =
+    let cells_within = each-left (IsNumber region.nodes) (numbers_of list.cells) list.free (used_within list) in
     let numbers : numbers_of list.cells ≡ numbers_of stands.behind ++ numbers_of stands.ahead =
     ap numbers_of stands.split ∙ map-append (λ (c : Cell). c.number) stands.behind stands.ahead in
-    each-right (IsNumber layout.list) (numbers_of stands.behind) (numbers_of stands.ahead)
-    (subst (Each (IsNumber layout.list)) numbers cells_within)
+    each-right (IsNumber region.nodes) (numbers_of stands.behind) (numbers_of stands.ahead)
+    (subst (Each (IsNumber region.nodes)) numbers cells_within)
 
 -- ---- steps of a walk
 
-pub stands-start : {layout : Layout} {values : List Val} {store : Store} (key : ℕ) (before : Node) →
-    IsValid layout → 0 < layout.list → (list : IsList layout values store) →
-    before.key ≡ key_of (value_at values (list_begin layout)) →
-    before.next ≡ next_of (value_at values (list_begin layout)) →
-    Stands (list_begin layout) key (list_begin layout) before list.cells
-stands-start {layout} {values} key before valid declared list before_key before_next =
-    let low : (value_at values (list_begin layout)).low ≡ first_of (numbers_of list.cells) =
+pub stands-start : {region : Region} {values : List Val} {held : List ℕ} (key : ℕ) (before : Node) →
+    FitsList region → 0 < region.nodes → (list : HasKeys region values held) →
+    before.key ≡ key_of (value_at values region.first) →
+    before.next ≡ next_of (value_at values region.first) →
+    Stands region.first key region.first before list.cells
+stands-start {region} {values} key before fits declared list before_key before_next =
+    let low : (value_at values region.first).low ≡ first_of (numbers_of list.cells) =
     ap (λ x. x.low) (list.head declared) in
-    let small = first_within layout.list (numbers_of list.cells)
-    (each-left (IsNumber layout.list) (numbers_of list.cells) list.free (used_within list)) in
+    let small = first_within region.nodes (numbers_of list.cells)
+    (each-left (IsNumber region.nodes) (numbers_of list.cells) list.free (used_within list)) in
     record {
       behind = [];
       ahead = list.cells;
       split = refl;
       lesser = tt;
       link = refl;
-      last = omega (arith, before_key, low, small, valid.list);
-      next = omega (arith, before_next, low, small, valid.list);
+      last = omega (arith, before_key, low, small, fits.few);
+      next = omega (arith, before_next, low, small, fits.few);
     }
 
 -- the next node that a walk links to
-pub next_within : {layout : Layout} {values : List Val} {store : Store} {key object : ℕ} {before : Node}
-    (list : IsList layout values store) (stands : Stands (list_begin layout) key object before list.cells) →
-    before.next ≤ layout.list
-next_within {layout} list stands =
-    let h = first_within layout.list (numbers_of stands.ahead) (ahead_within list stands) in
+pub next_within : {region : Region} {values : List Val} {held : List ℕ} {key object : ℕ} {before : Node}
+    (list : HasKeys region values held) (stands : Stands region.first key object before list.cells) →
+    before.next ≤ region.nodes
+next_within {region} list stands =
+    let h = first_within region.nodes (numbers_of stands.ahead) (ahead_within list stands) in
     omega (arith, h, stands.next)
 
 -- the cell in the node that comes next
@@ -113,26 +111,26 @@ next_in n begin values number next (c ∷ cs) small some is_first each chain nex
       next_is = omega (arith, next_next, low, next_small, small);
     }
 
-pub stands-next : {layout : Layout} {values : List Val} {store : Store} {key object : ℕ} {before : Node}
-    (next : Node) → IsValid layout → (list : IsList layout values store)
-    (stands : Stands (list_begin layout) key object before list.cells) → before.next ≢ 0 →
-    next.key ≡ key_of (value_at values (node_object (list_begin layout) before.next)) →
-    next.next ≡ next_of (value_at values (node_object (list_begin layout) before.next)) →
+pub stands-next : {region : Region} {values : List Val} {held : List ℕ} {key object : ℕ} {before : Node}
+    (next : Node) → FitsList region → (list : HasKeys region values held)
+    (stands : Stands region.first key object before list.cells) → before.next ≢ 0 →
+    next.key ≡ key_of (value_at values (node_object region.first before.next)) →
+    next.next ≡ next_of (value_at values (node_object region.first before.next)) →
     IsNext stands.ahead before.next next
-stands-next {layout} {values} {before = before} next valid list stands some next_key next_next =
-    next_in layout.list (list_begin layout) values before.next next stands.ahead (omega (arith, valid.list)) some
-    stands.next (ahead_within list stands) (IsChain-right (list_begin layout) values stands.behind stands.ahead
-    (subst (IsChain (list_begin layout) values) stands.split list.chain)) next_key next_next
+stands-next {region} {values} {before = before} next fits list stands some next_key next_next =
+    next_in region.nodes region.first values before.next next stands.ahead (omega (arith, fits.few)) some
+    stands.next (ahead_within list stands) (IsChain-right region.first values stands.behind stands.ahead
+    (subst (IsChain region.first values) stands.split list.chain)) next_key next_next
 
 -- the same, where the walk looked at a map that has the same values
-pub stands-seen : {layout : Layout} {values : List Val} {store : Store} {key object : ℕ} {before : Node}
-    {now : List Val} (at : ℕ) (next : Node) → IsValid layout → (list : IsList layout values store)
-    (stands : Stands (list_begin layout) key object before list.cells) → before.next ≢ 0 →
-    now ≡ values → at ≡ node_object (list_begin layout) before.next →
+pub stands-seen : {region : Region} {values : List Val} {held : List ℕ} {key object : ℕ} {before : Node}
+    {now : List Val} (at : ℕ) (next : Node) → FitsList region → (list : HasKeys region values held)
+    (stands : Stands region.first key object before list.cells) → before.next ≢ 0 →
+    now ≡ values → at ≡ node_object region.first before.next →
     next.key ≡ key_of (value_at now at) → next.next ≡ next_of (value_at now at) → IsNext stands.ahead before.next next
-stands-seen {values = values} at next valid list stands some same at_node next_key next_next =
+stands-seen {values = values} at next fits list stands some same at_node next_key next_next =
     let seen = ap (λ x. value_at x at) same ∙ ap (λ o. value_at values o) at_node in
-    stands-next next valid list stands some (next_key ∙ ap key_of seen) (next_next ∙ ap next_of seen)
+    stands-next next fits list stands some (next_key ∙ ap key_of seen) (next_next ∙ ap next_of seen)
 
 AllLess-push : (key : ℕ) (cells : List Cell) (c : Cell) → AllLess key cells → c.key < key →
     AllLess key (cells ++ c ∷ [])
@@ -166,7 +164,7 @@ stands-on {begin} {key} {next = next} stands ahead less =
 
 -- ---- the key's place
 
-pub rise_of : {layout : Layout} {values : List Val} {store : Store} (list : IsList layout values store) →
+pub rise_of : {region : Region} {values : List Val} {held : List ℕ} (list : HasKeys region values held) →
     Rise 0 list.cells
 rise_of list = Rise-of_increasing list.cells (subst IsStrictlyIncreasing list.keys list.rising)
 
@@ -178,11 +176,11 @@ place-found {key = key} {next = next} stands ahead same = record {
   here = subst (IsFirst key (Some next)) (sym ahead.cells_are) (ahead.key ∙ same, ahead.next_is);
 }
 
-place-passed : {layout : Layout} {values : List Val} {store : Store} {key object : ℕ} {before : Node}
-    {next : Node} (list : IsList layout values store)
-    (stands : Stands (list_begin layout) key object before list.cells) →
+place-passed : {region : Region} {values : List Val} {held : List ℕ} {key object : ℕ} {before : Node}
+    {next : Node} (list : HasKeys region values held)
+    (stands : Stands region.first key object before list.cells) →
     IsNext stands.ahead before.next next → key < next.key →
-    IsPlace (list_begin layout) key (record { link = object; before = before; node = None }) list.cells
+    IsPlace region.first key (record { link = object; before = before; node = None }) list.cells
 place-passed {key = key} list stands ahead greater =
     let c = ahead.cell in
     let cells = stands.split ∙ ap (λ cs. stands.behind ++ cs) ahead.cells_are in
@@ -195,28 +193,28 @@ place-passed {key = key} list stands ahead greater =
     ) in
     record { stands = stands; here = subst (AllGreater key) (sym ahead.cells_are) all }
 
-place-behind : {layout : Layout} {values : List Val} {store : Store} {key object : ℕ} {before : Node}
-    {next : Node} (node : Option Node) (list : IsList layout values store)
-    (stands : Stands (list_begin layout) key object before list.cells) → IsNext stands.ahead before.next next →
+place-behind : {region : Region} {values : List Val} {held : List ℕ} {key object : ℕ} {before : Node}
+    {next : Node} (node : Option Node) (list : HasKeys region values held)
+    (stands : Stands region.first key object before list.cells) → IsNext stands.ahead before.next next →
     MatchOption node (key < next.key) (λ n. (n ≡ next) × (next.key ≡ key)) →
-    IsPlace (list_begin layout) key (record { link = object; before = before; node = node }) list.cells
+    IsPlace region.first key (record { link = object; before = before; node = node }) list.cells
 place-behind {next = next} None list stands ahead greater = place-passed list stands ahead greater
-place-behind {layout} {key = key} {object = object} {before = before} {next = next} (Some n) list stands ahead
+place-behind {region} {key = key} {object = object} {before = before} {next = next} (Some n) list stands ahead
     (is, same) =
-    subst (λ (m : Node). IsPlace (list_begin layout) key
+    subst (λ (m : Node). IsPlace region.first key
     (record { link = object; before = before; node = Some m }) list.cells) (sym is) (place-found stands ahead same)
 
 -- the key's place, where the next node does not hold a lesser key
-pub place-next : {layout : Layout} {values : List Val} {store : Store} {key object : ℕ} {before : Node}
-    (next : Node) (place : Place) (list : IsList layout values store)
-    (stands : Stands (list_begin layout) key object before list.cells) → IsNext stands.ahead before.next next →
+pub place-next : {region : Region} {values : List Val} {held : List ℕ} {key object : ℕ} {before : Node}
+    (next : Node) (place : Place) (list : HasKeys region values held)
+    (stands : Stands region.first key object before list.cells) → IsNext stands.ahead before.next next →
     place.link ≡ object → place.before ≡ before →
     MatchOption place.node (key < next.key) (λ n. (n ≡ next) × (next.key ≡ key)) →
-    IsPlace (list_begin layout) key place list.cells
-place-next {layout} {key = key} {object = object} next place list stands ahead link holds node =
-    subst (λ (l : ℕ). IsPlace (list_begin layout) key
+    IsPlace region.first key place list.cells
+place-next {region} {key = key} {object = object} next place list stands ahead link holds node =
+    subst (λ (l : ℕ). IsPlace region.first key
     (record { link = l; before = place.before; node = place.node }) list.cells) (sym link)
-    (subst (λ (b : Node). IsPlace (list_begin layout) key (record { link = object; before = b; node = place.node })
+    (subst (λ (b : Node). IsPlace region.first key (record { link = object; before = b; node = place.node })
     list.cells) (sym holds) (place-behind place.node list stands ahead node))
 
 nothing : (n key : ℕ) (cells : List Cell) → Each (IsNumber n) (numbers_of cells) →
@@ -224,14 +222,14 @@ nothing : (n key : ℕ) (cells : List Cell) → Each (IsNumber n) (numbers_of ce
 nothing n key [] each none = tt
 nothing n key (c ∷ cs) each none = absurd (omega (arith, each.0.0, none))
 
-pub place-end : {layout : Layout} {values : List Val} {store : Store} {key object : ℕ} {before : Node}
-    (list : IsList layout values store) (stands : Stands (list_begin layout) key object before list.cells) →
+pub place-end : {region : Region} {values : List Val} {held : List ℕ} {key object : ℕ} {before : Node}
+    (list : HasKeys region values held) (stands : Stands region.first key object before list.cells) →
     before.next ≡ 0 →
-    IsPlace (list_begin layout) key (record { link = object; before = before; node = None }) list.cells
-place-end {layout} {key = key} list stands none =
+    IsPlace region.first key (record { link = object; before = before; node = None }) list.cells
+place-end {region} {key = key} list stands none =
     record {
       stands = stands;
-      here = nothing layout.list key stands.ahead (ahead_within list stands)
+      here = nothing region.nodes key stands.ahead (ahead_within list stands)
           (sym stands.next ∙ none);
     }
 
@@ -249,24 +247,24 @@ later least (d ∷ ds) c cs begin object last rise link inner is_last =
     omega (arith, is_last, Rise-next least d ds c cs rise)
 
 -- the key that comes next is greater than that of a node
-pub next_greater : {layout : Layout} {values : List Val} {store : Store} {key object : ℕ} {before : Node}
-    (next : Node) (list : IsList layout values store)
-    (stands : Stands (list_begin layout) key object before list.cells) →
-    IsNext stands.ahead before.next next → object ≢ list_begin layout → before.key < next.key
-next_greater {layout} {object = object} {before = before} next list stands ahead inner =
+pub next_greater : {region : Region} {values : List Val} {held : List ℕ} {key object : ℕ} {before : Node}
+    (next : Node) (list : HasKeys region values held)
+    (stands : Stands region.first key object before list.cells) →
+    IsNext stands.ahead before.next next → object ≢ region.first → before.key < next.key
+next_greater {region} {object = object} {before = before} next list stands ahead inner =
     let rise = subst (Rise 0) (stands.split ∙ ap (λ cs. stands.behind ++ cs) ahead.cells_are) (rise_of list) in
-    let rises = later 0 stands.behind ahead.cell ahead.rest (list_begin layout) object before.key rise stands.link
+    let rises = later 0 stands.behind ahead.cell ahead.rest region.first object before.key rise stands.link
     inner stands.last in
     omega (arith, rises, ahead.key)
 
-pub left-less : {layout : Layout} {values : List Val} {store : Store} {key object : ℕ} {before : Node}
-    (next : Node) (list : IsList layout values store)
-    (stands : Stands (list_begin layout) key object before list.cells) →
+pub left-less : {region : Region} {values : List Val} {held : List ℕ} {key object : ℕ} {before : Node}
+    (next : Node) (list : HasKeys region values held)
+    (stands : Stands region.first key object before list.cells) →
     IsNext stands.ahead before.next next → next.key < key →
-    left (list_begin layout) key (node_object (list_begin layout) before.next) next.key
-    < left (list_begin layout) key object before.key
-left-less {layout} {key = key} {object = object} {before = before} next list stands ahead less =
-    let begin = list_begin layout in
+    left region.first key (node_object region.first before.next) next.key
+    < left region.first key object before.key
+left-less {region} {key = key} {object = object} {before = before} next list stands ahead less =
+    let begin = region.first in
     let after : (node_object begin before.next == begin) ≡ false = ne_eqb _ _ (λ e. omega (arith, e)) in
     elim (cases_eq object begin) [
       | inl same ↦

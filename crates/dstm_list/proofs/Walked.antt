@@ -1,44 +1,42 @@
 -- A walk along the list, and an operation whose first part is one.
-use Rattle.std.proofs.Common.{◌≡◌, ◌≢◌, ℕ, List, refl, sym, ◌∙◌, ap, subst, slice_set}
+use Rattle.std.proofs.Common.{◌≡◌, ◌≢◌, ◌≤◌, ℕ, ◌+◌, List, refl, sym, ◌∙◌, ap, subst, slice_set}
 use Rattle.std.specs.Prelude.{Ok, is_some}
 use Rattle.dstm_model.specs.declared.value.Val.{Val}
-use Rattle.dstm_model.specs.declared.layout.Layout.{Layout}
-use Rattle.dstm_model.specs.declared.op.Which.TheVariants as which
-use Rattle.dstm_model.specs.declared.op.Op.{Op}
-use Rattle.dstm_model.specs.declared.op.Op.TheVariants.{Member}
 use Rattle.dstm_model.specs.declared.reply.Reply.{Reply}
-use Rattle.dstm_model.specs.Layout.{IsValid}
-use Rattle.dstm_model.specs.Store.{Store, yes_or_no}
-use Rattle.dstm_model.specs.Objects.{Does, objects_of, list_begin, node_object}
+use Rattle.dstm_model.specs.Store.{yes_or_no}
+use Rattle.dstm_model.specs.Objects.{node_object}
 use Rattle.dstm_mem.specs.declared.memory.Mem.{Ghosts}
 use Rattle.dstm_mem.specs.Memory.{with_set}
-use Rattle.dstm_mem.specs.Operations.{IsReady, Leads, OnlyReads}
-use Rattle.dstm_mem.specs.Operates.{Operates, Applies}
-use Rattle.dstm_mem.proofs.Operations.{leads-answers, opens_to_set-of_reads, ready-reads}
+use Rattle.dstm_mem.specs.Operations.{Leads, OnlyReads}
+use Rattle.dstm_mem.specs.Operates.{Operates}
+use Rattle.dstm_mem.proofs.Operations.{leads-answers, opens_to_set-of_reads}
 use Rattle.dstm_mem.proofs.Operating.{Through, operates-as, operates-then}
 use Rattle.dstm_mem.proofs.WithSet.{with_set-same}
+use Rattle.dstm_region.specs.declared.region.Region.{Region}
+use Rattle.dstm_region.specs.Region.{IsInside, size_of}
 use Rattle.dstm_list.specs.declared.node.Node.{Node}
 use Rattle.dstm_list.specs.declared.walk.Place.{Place}
-use Rattle.dstm_list.specs.List.{IsList, IsOfList, SameOutside, SameButThree}
-use Rattle.dstm_list.specs.Place.{Finds, Walks, IsReadyAt, Sees, Stands}
+use Rattle.dstm_list.specs.List.{FitsList, HasKeys, SameOutside, SameButThree}
+use Rattle.dstm_list.specs.Edits.{Calls, Tells}
+use Rattle.dstm_list.specs.Place.{Finds, Walks, IsReadyIn, IsReadyAt, Sees, Stands}
 use Rattle.dstm_list.proofs.Steps.{IsNext, stands-seen}
 use Rattle.dstm_list.proofs.Operations.{does-member}
 
 -- ---- on the way
 
 -- a walk for a key has come to the object that links on, and nothing was changed
-pub record Reaches (layout : Layout) (key link : ℕ) (before : Node) (start now : List Val) : Type 0 where
+pub record Reaches (region : Region) (key link : ℕ) (before : Node) (start now : List Val) : Type 0 where
   pub same : now ≡ start
-  pub stands : (store : Store) (list : IsList layout start store) →
-      Stands (list_begin layout) key link before list.cells
+  pub stands : (held : List ℕ) (list : HasKeys region start held) →
+      Stands region.first key link before list.cells
 
 -- the node that is seen next is that of the next cell
-pub next-seen : {layout : Layout} {key link object : ℕ} {before next : Node} {start now : List Val} →
-    IsValid layout → before.next ≢ 0 → object ≡ node_object (list_begin layout) before.next →
-    (h : Through (Reaches layout key link before) (Sees object next) start now) → {store : Store} →
-    (list : IsList layout start store) → IsNext (h.first.stands store list).ahead before.next next
-next-seen {object = object} {next = next} valid some at h {store = store} list =
-    stands-seen object next valid list (h.first.stands store list) some h.first.same at h.second.key h.second.next
+pub next-seen : {region : Region} {key link object : ℕ} {before next : Node} {start now : List Val} →
+    FitsList region → before.next ≢ 0 → object ≡ node_object region.first before.next →
+    (h : Through (Reaches region key link before) (Sees object next) start now) → {held : List ℕ} →
+    (list : HasKeys region start held) → IsNext (h.first.stands held list).ahead before.next next
+next-seen {object = object} {next = next} fits some at h {held = held} list =
+    stands-seen object next fits list (h.first.stands held list) some h.first.same at h.second.key h.second.next
 
 -- an object that is known otherwise was set to a value that is known otherwise
 pub set-known : {before now after : List Val} {o p : ℕ} {v u : Val} → after ≡ slice_set now o v → now ≡ before →
@@ -62,13 +60,13 @@ operates-at {M = M} done quiet marks does = record {
 
 -- ---- after it
 
-module _ {S E : Type 0} (M : Ghosts S E) (layout : Layout) where
+module _ {S E : Type 0} (M : Ghosts S E) (region : Region) where
   -- a walk, of what is known of it one by one
   pub walks-by : {old new : S} {A : Type 0} {x : A} (key : ℕ) (place : Place) → Leads M old new (Ok x) →
-      OnlyReads M old new → SameOutside layout (M.held old) (M.held new) →
-      SameOutside layout (M.is_opened old) (M.is_opened new) →
-      ((map : List Val) → M.Admits new map → Finds layout (with_set map (M.written old)) key place) →
-      Operates M (IsOfList layout) (λ found. Unit {0}) (λ found. Unit {0}) (Walks layout key) old new (Ok place)
+      OnlyReads M old new → SameOutside region (M.held old) (M.held new) →
+      SameOutside region (M.is_opened old) (M.is_opened new) →
+      ((map : List Val) → M.Admits new map → Finds region (with_set map (M.written old)) key place) →
+      Operates M (IsInside region) (λ found. Unit {0}) (λ found. Unit {0}) (Walks region key) old new (Ok place)
   walks-by {old} {new} key place leads reads holds opens finds = record {
     leads = leads-answers M leads;
     outside = λ o out. record { written = reads.sets o; held = holds o out; opened = opens o out };
@@ -81,45 +79,52 @@ module _ {S E : Type 0} (M : Ghosts S E) (layout : Layout) where
   }
 
   -- after a walk the memory is ready for a change at the place
-  pub ready-walked : {old new : S} {place : Place} {key : ℕ} → IsReady M (objects_of layout) (IsList layout) old →
-      IsOfList layout place.link →
-      Operates M (IsOfList layout) (λ found. Unit {0}) (λ found. Unit {0}) (Walks layout key) old new (Ok place) →
-      IsReadyAt M layout key place new
+  pub ready-walked : {old new : S} {place : Place} {key : ℕ} → IsReadyIn M region old →
+      IsInside region place.link →
+      Operates M (IsInside region) (λ found. Unit {0}) (λ found. Unit {0}) (Walks region key) old new (Ok place) →
+      IsReadyAt M region key place new
   ready-walked {place = place} {key = key} ready link walks = record {
-    ready = ready-reads M (Ok place) ready walks.leads (walks.quiet tt);
+    ready = record {
+      objects = subst (λ n. region.first + size_of region ≤ n) (sym walks.leads.objects) ready.objects;
+      live = walks.leads.live;
+      lawful = λ map admitted.
+          let (held, list) = ready.lawful map (walks.leads.narrows map admitted) in
+          (held, subst (λ (values : List Val). HasKeys region values held) (sym (walks.does map admitted).same) list);
+    };
     admits = walks.leads.admits;
     found = λ map admitted.
         let walked = walks.does map admitted in
-        subst (λ (values : List Val). Finds layout values key place) (sym walked.same) walked.finds;
+        subst (λ (values : List Val). Finds region values key place) (sym walked.same) walked.finds;
     link = link;
   }
 
   -- what a change did after a walk, both did: it is applied, and three objects at most are set
-  pub record Changes (op : Op) (old new : S) (reply : Reply) : Type 0 where
-    pub applies : Applies M (IsOfList layout) (IsList layout) op old new (Ok reply)
-    pub few : SameButThree layout (M.written old) (M.written new)
+  pub record Changes (IsQuiet : Reply → Type 0) (Does : Reply → List Val → List Val → Type 0) (old new : S)
+      (reply : Reply) : Type 0 where
+    pub applies : Calls M region IsQuiet Does old new (Ok reply)
+    pub few : SameButThree region (M.written old) (M.written new)
 
-  pub changes-walked : {old mid new : S} {place : Place} {key : ℕ} (op : Op) (reply : Reply) →
-      Operates M (IsOfList layout) (λ found. Unit {0}) (λ found. Unit {0}) (Walks layout key) old mid (Ok place) →
-      Changes op mid new reply → Changes op old new reply
-  changes-walked op reply walks done =
+  pub changes-walked : {old mid new : S} {place : Place} {key : ℕ} {IsQuiet : Reply → Type 0}
+      {Does : Reply → List Val → List Val → Type 0} (reply : Reply) →
+      Operates M (IsInside region) (λ found. Unit {0}) (λ found. Unit {0}) (Walks region key) old mid (Ok place) →
+      Changes IsQuiet Does mid new reply → Changes IsQuiet Does old new reply
+  changes-walked {Does = Does} reply walks done =
       let reads = walks.quiet tt in
       let few = done.few in
       record {
         applies = operates-as (operates-then walks done.applies) (λ look. (tt, look)) (λ all. (tt, all))
             (λ before after h.
-            subst (λ (values : List Val). Does (IsList layout) op values after reply) h.first.same h.second);
+            subst (λ (values : List Val). Does reply values after) h.first.same h.second);
         few = (few.0, (few.1.0, λ p not_link not_node not_free. few.1.1 p not_link not_node not_free ∙ reads.sets p));
       }
 
   -- a walk alone tells whether the key is there
   pub member-walked : {old new : S} {place : Place} {key : ℕ} (reply : Reply) →
-      Operates M (IsOfList layout) (λ found. Unit {0}) (λ found. Unit {0}) (Walks layout key) old new (Ok place) →
+      Operates M (IsInside region) (λ found. Unit {0}) (λ found. Unit {0}) (Walks region key) old new (Ok place) →
       reply ≡ yes_or_no (is_some place.node) →
-      Applies M (IsOfList layout) (IsList layout) (Member which.List key) old new (Ok reply)
+      Calls M region (λ r. Unit {0}) (Tells region key) old new (Ok reply)
   member-walked {place = place} {key = key} reply walks is =
       operates-as walks (λ look. tt) (λ all. tt) (λ before after h.
-      let op = Member which.List key in
-      subst (λ (r : Reply). Does (IsList layout) op before after r) (sym is)
-      (subst (λ (now : List Val). Does (IsList layout) op before now (yes_or_no (is_some place.node))) (sym h.same)
+      subst (λ (r : Reply). Tells region key r before after) (sym is)
+      (subst (λ (now : List Val). Tells region key (yes_or_no (is_some place.node)) before now) (sym h.same)
       (does-member key place (is_some place.node) h.finds refl)))

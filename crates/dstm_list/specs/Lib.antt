@@ -1,3 +1,4 @@
 pub mod List
+pub mod Edits
 pub mod Place
 pub mod Reads

@@ -1,6 +1,6 @@
--- The list's part of a map: its words, the two chains of its nodes, and what it says that they stand for
--- the list's keys.
-use Rattle.std.specs.Prelude.{◌≡◌, ◌≢◌, ℕ, zero, suc, ◌+◌, ◌*◌, ◌/◌, ◌%◌, ◌<◌, ◌≤◌, List, [], ◌∷◌, ◌++◌, map}
+-- A list on a region: its words, the two chains of its nodes, and what it says that they stand for keys: those of a
+-- store, where the region is a layout's.
+use Rattle.std.specs.Prelude.{◌≡◌, ◌≢◌, ℕ, zero, suc, ◌+◌, ◌*◌, ◌/◌, ◌%◌, ◌^◌, ◌<◌, ◌≤◌, List, [], ◌∷◌, ◌++◌, map}
 use Rattle.std.specs.Prelude.{IsPermutation}
 use Rattle.std.specs.List.Sorted.{IsStrictlyIncreasing}
 use Rattle.dstm_model.specs.declared.value.Val.{Val}
@@ -8,6 +8,8 @@ use Rattle.dstm_model.specs.declared.layout.Layout.{Layout}
 use Rattle.dstm_model.specs.Map.{value_at}
 use Rattle.dstm_model.specs.Store.{Store}
 use Rattle.dstm_model.specs.Objects.{list_begin, tree_begin, free_object, node_object, plain}
+use Rattle.dstm_region.specs.declared.region.Region.{Region}
+use Rattle.dstm_region.specs.Region.{IsInside, list_region}
 
 -- what a node holds: its key and the number of the next node, 0 where there is none. The heads of the
 -- two chains and the free nodes hold such a number alone.
@@ -54,32 +56,41 @@ abbrev pub nodes_to : ℕ → List ℕ
 nodes_to zero = []
 nodes_to (suc n) = suc n ∷ nodes_to n
 
--- The map stands for the list's keys: they are in the nodes on the chain from the head, in rising order,
--- every other node is on the free chain, and none is on a chain twice. A list that is not declared has no
--- objects and no keys.
-pub record IsList (layout : Layout) (values : List Val) (store : Store) : Type 0 where
+-- A list fits in the region: it has nodes, a link has room for their numbers, and whatever number a link has, that of
+-- the node's object has 32 bits.
+pub record FitsList (region : Region) : Type 0 where
+  pub some : 0 < region.nodes
+  pub few : region.nodes < 2048
+  pub numbered : region.first + 2048 < 2 ^ 32
+
+-- The region's objects hold these keys: they are in the nodes on the chain from the head, in rising order, every other
+-- node is on the free chain, and none is on a chain twice. A region without nodes has no keys, whatever its heads hold.
+pub record HasKeys (region : Region) (values : List Val) (all : List ℕ) : Type 0 where
   pub cells : List Cell
   pub free : List ℕ
-  pub capacity : store.layout.list ≡ layout.list
-  pub keys : store.keys ≡ keys_of cells
-  pub rising : IsStrictlyIncreasing store.keys
-  pub head : 0 < layout.list → value_at values (list_begin layout) ≡ plain (first_of (numbers_of cells))
-  pub chain : IsChain (list_begin layout) values cells
-  pub free_head : 0 < layout.list → value_at values (free_object (list_begin layout)) ≡ plain (first_of free)
-  pub free_chain : IsFreeChain (list_begin layout) values free
-  pub once : IsPermutation (numbers_of cells ++ free) (nodes_to layout.list)
+  pub keys : all ≡ keys_of cells
+  pub rising : IsStrictlyIncreasing all
+  pub head : 0 < region.nodes → value_at values region.first ≡ plain (first_of (numbers_of cells))
+  pub chain : IsChain region.first values cells
+  pub free_head : 0 < region.nodes → value_at values (free_object region.first) ≡ plain (first_of free)
+  pub free_chain : IsFreeChain region.first values free
+  pub once : IsPermutation (numbers_of cells ++ free) (nodes_to region.nodes)
 
--- the list's objects
+-- The objects of a layout's list hold the store's keys. A list that is not declared has no objects and no keys.
+pub record IsList (layout : Layout) (values : List Val) (store : Store) : Type 0 where
+  pub holds : HasKeys (list_region layout) values store.keys
+  pub capacity : store.layout.list ≡ layout.list
+
+-- the objects of a layout's list
 abbrev pub IsOfList : Layout → ℕ → Type 0
 IsOfList layout o = (list_begin layout ≤ o) × (o < tree_begin layout)
 
--- nothing differs but at the list's objects
-abbrev pub SameOutside : {A : Type 0} → Layout → (ℕ → A) → (ℕ → A) → Type 0
-SameOutside layout old new = (p : ℕ) → ¬ IsOfList layout p → new p ≡ old p
+-- nothing differs but at the region's objects
+abbrev pub SameOutside : {A : Type 0} → Region → (ℕ → A) → (ℕ → A) → Type 0
+SameOutside region old new = (p : ℕ) → ¬ IsInside region p → new p ≡ old p
 
 -- nothing differs but at the head of the free chain and at most two objects more: a node and its link
-abbrev pub SameButThree : {A : Type 0} → Layout → (ℕ → A) → (ℕ → A) → Type 0
-SameButThree layout old new =
+abbrev pub SameButThree : {A : Type 0} → Region → (ℕ → A) → (ℕ → A) → Type 0
+SameButThree region old new =
     (link : ℕ) × ((number : ℕ) ×
-    ((p : ℕ) → p ≢ link → p ≢ node_object (list_begin layout) number → p ≢ free_object (list_begin layout) →
-    new p ≡ old p))
+    ((p : ℕ) → p ≢ link → p ≢ node_object region.first number → p ≢ free_object region.first → new p ≡ old p))

@@ -1,16 +1,15 @@
 -- Where a walk along the list stands, the place of a key, and what is seen and changed there.
-use Rattle.std.specs.Prelude.{◌≡◌, ℕ, ◌<◌, List, [], ◌∷◌, ◌++◌, Option, Some, None, slice_set}
+use Rattle.std.specs.Prelude.{◌≡◌, ℕ, ◌<◌, List, [], ◌∷◌, ◌++◌, Option, Some, None, IsTrue, slice_set}
 use Rattle.dstm_model.specs.declared.value.Val.{Val}
-use Rattle.dstm_model.specs.declared.layout.Layout.{Layout}
 use Rattle.dstm_model.specs.Map.{value_at}
-use Rattle.dstm_model.specs.Store.{Store}
-use Rattle.dstm_model.specs.Objects.{objects_of, list_begin, node_object}
+use Rattle.dstm_model.specs.Objects.{node_object}
 use Rattle.dstm_mem.specs.declared.memory.Mem.{Ghosts}
 use Rattle.dstm_mem.specs.Memory.{with_set}
-use Rattle.dstm_mem.specs.Operations.{IsReady}
+use Rattle.dstm_region.specs.declared.region.Region.{Region}
+use Rattle.dstm_region.specs.Region.{IsInside, IsWithin}
 use Rattle.dstm_list.specs.declared.node.Node.{Node}
 use Rattle.dstm_list.specs.declared.walk.Place.{Place}
-use Rattle.dstm_list.specs.List.{Cell, IsList, IsOfList, numbers_of, first_of, key_of, next_of}
+use Rattle.dstm_list.specs.List.{Cell, HasKeys, numbers_of, first_of, key_of, next_of}
 
 -- the object that links to what comes after these cells: that of the last one, or the given one where
 -- there is none
@@ -54,21 +53,29 @@ pub record IsPlace (begin key : ℕ) (place : Place) (cells : List Cell) : Type 
   pub here : IsFirst key place.node stands.ahead
 
 -- the place is the key's, in each list that the map stands for
-abbrev pub Finds : Layout → List Val → ℕ → Place → Type 0
-Finds layout values key place =
-    (store : Store) (list : IsList layout values store) → IsPlace (list_begin layout) key place list.cells
+abbrev pub Finds : Region → List Val → ℕ → Place → Type 0
+Finds region values key place =
+    (held : List ℕ) (list : HasKeys region values held) → IsPlace region.first key place list.cells
 
 -- the place of a key was found, and nothing was changed
-pub record Walks (layout : Layout) (key : ℕ) (place : Place) (before after : List Val) : Type 0 where
+pub record Walks (region : Region) (key : ℕ) (place : Place) (before after : List Val) : Type 0 where
   pub same : after ≡ before
-  pub finds : Finds layout before key place
+  pub finds : Finds region before key place
+
+-- the memory is live and has the region's objects, and in each map that it admits, with what is set, they hold keys
+pub record IsReadyIn {S E : Type 0} (M : Ghosts S E) (region : Region) (memory : S) : Type 0 where
+  pub objects : IsWithin region (M.objects memory)
+  pub live : IsTrue (M.is_live memory)
+  pub lawful : (map : List Val) → M.Admits memory map →
+      (held : List ℕ) × HasKeys region (with_set map (M.written memory)) held
 
 -- The memory is ready for a change at this place: it admits a map, and in each that it admits the place is the key's.
-pub record IsReadyAt {S E : Type 0} (M : Ghosts S E) (layout : Layout) (key : ℕ) (place : Place) (memory : S) : Type 0 where
-  pub ready : IsReady M (objects_of layout) (IsList layout) memory
+pub record IsReadyAt {S E : Type 0} (M : Ghosts S E) (region : Region) (key : ℕ) (place : Place) (memory : S) : Type
+    0 where
+  pub ready : IsReadyIn M region memory
   pub admits : (map : List Val) × M.Admits memory map
-  pub found : (map : List Val) → M.Admits memory map → Finds layout (with_set map (M.written memory)) key place
-  pub link : IsOfList layout place.link
+  pub found : (map : List Val) → M.Admits memory map → Finds region (with_set map (M.written memory)) key place
+  pub link : IsInside region place.link
 
 -- an object was seen to hold this node, and nothing was changed
 pub record Sees (object : ℕ) (node : Node) (before after : List Val) : Type 0 where

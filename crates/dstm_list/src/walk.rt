@@ -1,15 +1,12 @@
 ghost use Rattle.std.specs.Prelude.{◌≡◌, ◌<◌, ◌≤◌, IfOk, MatchOption};
-ghost use Rattle.dstm_model.specs.Layout.{IsValid};
-ghost use Rattle.dstm_model.specs.Objects.{objects_of};
-ghost use Rattle.dstm_mem.specs.Operations.{IsReady};
-ghost use Rattle.dstm_mem.specs.Operates.{Operates};
-ghost use Rattle.dstm_list.specs.List.{IsList, IsOfList};
-ghost use Rattle.dstm_list.specs.Place.{Walks, IsReadyAt};
+ghost use Rattle.dstm_list.specs.List.{FitsList};
+ghost use Rattle.dstm_list.specs.Edits.{Calls};
+ghost use Rattle.dstm_list.specs.Place.{Walks, IsReadyIn, IsReadyAt};
 
 use crate::node::Node;
-use crate::object::{look, node_object};
+use crate::object::{look, node_object_in};
 use dstm_mem::Mem;
-use dstm_model::Layout;
+use dstm_region::Region;
 
 /// Where a key stands in the list, or would stand.
 #[derive(Clone, Copy)]
@@ -23,20 +20,18 @@ pub struct Place {
 }
 
 /// Walks along the list to a key's place, and opens what it passes for reading.
-pub fn find<M: Mem>(mem: &mut M, layout: &Layout, key: u32) -> Result<Place, M::Err>
-    requires valid { IsValid layout.now }
-    requires declared { 0 < layout.now.list }
-    requires ready { IsReady M.Mem (objects_of layout.now) (IsList layout.now) mem.old }
+pub fn find<M: Mem>(mem: &mut M, region: Region, key: u32) -> Result<Place, M::Err>
+    requires fits { FitsList region }
+    requires ready { IsReadyIn M.Mem region mem.old }
 
-    ensures walks { Operates M.Mem (IsOfList layout.now) (λ found. Unit {0}) (λ found. Unit {0}) (Walks layout.now key)
-        mem.old mem.new result }
-    ensures ready { IfOk result (λ found. IsReadyAt M.Mem layout.now key found mem.new) }
+    ensures walks { Calls M.Mem region (λ found. Unit {0}) (Walks region key) mem.old mem.new result }
+    ensures ready { IfOk result (λ found. IsReadyAt M.Mem region key found mem.new) }
 {
-    let mut link = layout.accounts;
-    let mut before = look(mem, layout, link)?;
+    let mut link = region.first;
+    let mut before = look(mem, region, link)?;
     while before.next != 0 {
-        let object = node_object(layout, before.next);
-        let node = look(mem, layout, object)?;
+        let object = node_object_in(region, before.next);
+        let node = look(mem, region, object)?;
         if node.key >= u64::from(key) {
             return Ok(place_before(link, before, node, key));
         }

@@ -4,13 +4,13 @@ use Rattle.std.proofs.Common.{inl, inr}
 use Rattle.std.specs.Prelude.{Option, Some, None, Contains, IsSome, is_some}
 use Rattle.std.proofs.lemmas.Bool.{cases_eq}
 use Rattle.std.proofs.lemmas.List.Elements.{Contains-append_right}
-use Rattle.dstm_model.specs.declared.layout.Layout.{Layout}
 use Rattle.dstm_model.specs.declared.reply.Reply.{Reply}
 use Rattle.dstm_model.specs.declared.reply.Reply.TheVariants.{Yes, Full}
 use Rattle.dstm_model.specs.Store.{yes_or_no}
-use Rattle.dstm_model.specs.Objects.{list_begin, free_object, node_object}
+use Rattle.dstm_model.specs.Objects.{free_object, node_object}
 use Rattle.dstm_mem.specs.declared.memory.Mem.{Ghosts}
 use Rattle.dstm_mem.proofs.Few.{first_or_other}
+use Rattle.dstm_region.specs.declared.region.Region.{Region}
 use Rattle.dstm_list.specs.declared.node.Node.{Node}
 use Rattle.dstm_list.specs.declared.walk.Place.{Place}
 use Rattle.dstm_list.specs.Reads.{IsRead, AddsNoRead, AddsReadOf}
@@ -56,10 +56,10 @@ module _ {S E : Type 0} (M : Ghosts S E) where
   -- ---- after a walk
 
   -- what stays a read of the walk is one of the three
-  pub three-walked : {old mid : S} {layout : Layout} {place : Place} → AddsToPlace M layout old mid place →
+  pub three-walked : {old mid : S} {region : Region} {place : Place} → AddsToPlace M region old mid place →
       AddsAtMost 3 M old mid
-  three-walked {layout = layout} {place = place} walked =
-      let begin = list_begin layout in
+  three-walked {region = region} {place = place} walked =
+      let begin = region.first in
       let link = place.link in
       let other = walked.other in
       adds-listed 3 (link ∷ (begin ∷ (other ∷ []))) (omega arith) (λ p none read.
@@ -68,7 +68,8 @@ module _ {S E : Type 0} (M : Ghosts S E) where
       (λ e. none (then_other link (begin ∷ (other ∷ [])) p (then_other begin (other ∷ []) p (then_first other [] p e))))
       read)
 
-  adds-kept : {old mid new : S} {most : ℕ} → AddsAtMost most M old mid → AddsNoRead M mid new → AddsAtMost most M old new
+  adds-kept : {old mid new : S} {most : ℕ} → AddsAtMost most M old mid → AddsNoRead M mid new →
+      AddsAtMost most M old new
   adds-kept adds none = record { objects = adds.objects; few = adds.few; each = λ p read. adds.each p (none p read) }
 
   adds-also : {old mid new : S} {most : ℕ} (o : ℕ) → AddsAtMost most M old mid → AddsReadOf M o mid new →
@@ -86,10 +87,10 @@ module _ {S E : Type 0} (M : Ghosts S E) where
   }
 
   -- where the object that links to the place is opened for writing it is no read
-  two : {old mid new : S} {layout : Layout} {place : Place} → AddsToPlace M layout old mid place →
+  two : {old mid new : S} {region : Region} {place : Place} → AddsToPlace M region old mid place →
       AddsNoRead M mid new → IsTrue (M.is_opened new place.link) → AddsAtMost 2 M old new
-  two {new = new} {layout = layout} {place = place} walked none opened =
-      let begin = list_begin layout in
+  two {new = new} {region = region} {place = place} walked none opened =
+      let begin = region.first in
       let other = walked.other in
       adds-listed 2 (begin ∷ (other ∷ [])) (omega arith) (λ p out read.
       walked.each p (λ e. unread-opened M place.link opened (subst (IsRead M new) e read))
@@ -97,36 +98,36 @@ module _ {S E : Type 0} (M : Ghosts S E) where
       (λ e. out (then_other begin (other ∷ []) p (then_first other [] p e))) (none p read))
 
   -- so is the node that comes next where it is opened, too
-  one : {old mid new : S} {layout : Layout} {place : Place} → AddsToPlace M layout old mid place →
+  one : {old mid new : S} {region : Region} {place : Place} → AddsToPlace M region old mid place →
       AddsNoRead M mid new → IsSome place.node → IsTrue (M.is_opened new place.link) →
-      IsTrue (M.is_opened new (node_object (list_begin layout) place.before.next)) → AddsAtMost 1 M old new
-  one {new = new} {layout = layout} {place = place} walked none some opened node_opened =
-      let begin = list_begin layout in
+      IsTrue (M.is_opened new (node_object region.first place.before.next)) → AddsAtMost 1 M old new
+  one {new = new} {region = region} {place = place} walked none some opened node_opened =
+      let begin = region.first in
       adds-listed 1 (begin ∷ []) (omega arith) (λ p out read.
       walked.each p (λ e. unread-opened M place.link opened (subst (IsRead M new) e read))
       (λ e. out (then_first begin [] p e)) (λ e. unread-opened M (node_object begin place.before.next) node_opened
       (subst (IsRead M new) (e ∙ walked.node some) read)) (none p read))
 
-  pub adds-insert : {old mid new : S} {layout : Layout} {place : Place} (reply : Reply) →
-      AddsToPlace M layout old mid place → AddsReadOf M (free_object (list_begin layout)) mid new →
+  pub adds-insert : {old mid new : S} {region : Region} {place : Place} (reply : Reply) →
+      AddsToPlace M region old mid place → AddsReadOf M (free_object region.first) mid new →
       (reply ≢ Full → AddsNoRead M mid new) → (reply ≡ Yes → IsTrue (M.is_opened new place.link)) →
       AddsAtMost (most_of_insert reply) M old new
-  adds-insert {layout = layout} {place = place} Full walked looked reads opened =
-      adds-also (free_object (list_begin layout)) (three-walked walked) looked
-  adds-insert {layout = layout} {place = place} Yes walked looked reads opened =
+  adds-insert {region = region} {place = place} Full walked looked reads opened =
+      adds-also (free_object region.first) (three-walked walked) looked
+  adds-insert {region = region} {place = place} Yes walked looked reads opened =
       two walked (reads (λ e. cc)) (opened refl)
-  adds-insert {layout = layout} {place = place} reply walked looked reads opened =
+  adds-insert {region = region} {place = place} reply walked looked reads opened =
       adds-kept (three-walked walked) (reads (λ e. cc))
 
   node_some : (node : Option Node) → Yes ≡ yes_or_no (is_some node) → IsSome node
   node_some None is = absurd (let no : ⊥ = cc in no)
   node_some (Some n) is = refl
 
-  pub adds-remove : {old mid new : S} (layout : Layout) (place : Place) (reply : Reply) →
-      AddsToPlace M layout old mid place → AddsNoRead M mid new → reply ≡ yes_or_no (is_some place.node) →
+  pub adds-remove : {old mid new : S} (region : Region) (place : Place) (reply : Reply) →
+      AddsToPlace M region old mid place → AddsNoRead M mid new → reply ≡ yes_or_no (is_some place.node) →
       (reply ≡ Yes → IsTrue (M.is_opened new place.link)) →
-      (reply ≡ Yes → IsTrue (M.is_opened new (node_object (list_begin layout) place.before.next))) →
+      (reply ≡ Yes → IsTrue (M.is_opened new (node_object region.first place.before.next))) →
       AddsAtMost (most_of_remove reply) M old new
-  adds-remove layout place Yes walked reads there opened node_opened =
+  adds-remove region place Yes walked reads there opened node_opened =
       one walked reads (node_some place.node there) (opened refl) (node_opened refl)
-  adds-remove layout place reply walked reads there opened node_opened = adds-kept (three-walked walked) reads
+  adds-remove region place reply walked reads there opened node_opened = adds-kept (three-walked walked) reads

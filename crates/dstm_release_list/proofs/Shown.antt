@@ -24,13 +24,12 @@ use Rattle.std.proofs.lemmas.List.Elements.{All-contains, All-from_recursion, Co
 use Rattle.std.proofs.lemmas.List.Elements.{Contains-append_right}
 use Rattle.std.proofs.lemmas.List.Sorted.{Contains-permutation, IsPermutation-sym}
 use Rattle.dstm_model.specs.declared.value.Val.{Val}
-use Rattle.dstm_model.specs.declared.layout.Layout.{Layout}
-use Rattle.dstm_model.specs.Layout.{IsValid}
 use Rattle.dstm_model.specs.Map.{value_at}
-use Rattle.dstm_model.specs.Store.{Store}
-use Rattle.dstm_model.specs.Objects.{list_begin, node_object}
+use Rattle.dstm_model.specs.Objects.{node_object}
+use Rattle.dstm_region.specs.declared.region.Region.{Region}
 use Rattle.dstm_list.specs.declared.node.Node.{Node}
-use Rattle.dstm_list.specs.List.{Cell, IsList, IsChain, IsFreeChain, numbers_of, first_of, key_of, next_of, nodes_to}
+use Rattle.dstm_list.specs.List.{Cell, FitsList, HasKeys, IsChain, IsFreeChain}
+use Rattle.dstm_list.specs.List.{numbers_of, first_of, key_of, next_of, nodes_to}
 use Rattle.dstm_list.specs.Place.{Stands, AllLess}
 use Rattle.dstm_list.proofs.Keys.{Rise}
 use Rattle.dstm_list.proofs.Numbers.{IsNumber, each-left, each-right}
@@ -84,15 +83,15 @@ has_number (suc n) i within =
           Contains-append_right (suc n ∷ []) (nodes_to n) i rest
     ]
 
-at_number : {layout : Layout} {values : List Val} {store : Store} (i : ℕ) → IsValid layout →
-    IsNumber layout.list i → (list : IsList layout values store) →
-    0 < key_of (value_at values (node_object (list_begin layout) i)) → AtCell list.cells i
-at_number {layout} {values} i valid number list some =
-    let n = layout.list in
-    let begin = list_begin layout in
+at_number : {region : Region} {values : List Val} {held : List ℕ} (i : ℕ) → FitsList region →
+    IsNumber region.nodes i → (list : HasKeys region values held) →
+    0 < key_of (value_at values (node_object region.first i)) → AtCell list.cells i
+at_number {region} {values} i fits number list some =
+    let n = region.nodes in
+    let begin = region.first in
     let numbers = numbers_of list.cells in
     let free = each-right (IsNumber n) numbers list.free (used_within list) in
-    let zeros = free_keys n begin values list.free (omega (arith, valid.list)) free list.free_chain in
+    let zeros = free_keys n begin values list.free (omega (arith, fits.few)) free list.free_chain in
     let Zero = λ (j : ℕ). key_of (value_at values (node_object begin j)) ≡ 0 in
     elim (Contains-append_cases numbers list.free i
     (Contains-permutation (nodes_to n) (numbers ++ list.free) i (IsPermutation-sym _ _ list.once)
@@ -116,14 +115,14 @@ less_behind key least [] c ahead rise less = (less, tt)
 less_behind key least (d ∷ ds) c ahead rise less =
     (omega (arith, least_below (d.key + 1) ds c ahead rise.1, less), less_behind key (d.key + 1) ds c ahead rise.1 less)
 
-at_stands : {layout : Layout} {values : List Val} {store : Store} (key : ℕ) {i : ℕ} (node : Node) → IsValid layout →
-    (list : IsList layout values store) → AtCell list.cells i →
-    node.key ≡ key_of (value_at values (node_object (list_begin layout) i)) →
-    node.next ≡ next_of (value_at values (node_object (list_begin layout) i)) → node.key < key →
-    Stands (list_begin layout) key (node_object (list_begin layout) i) node list.cells
-at_stands {layout} {values} key {i = i} node valid list at node_key node_next less =
-    let n = layout.list in
-    let begin = list_begin layout in
+at_stands : {region : Region} {values : List Val} {held : List ℕ} (key : ℕ) {i : ℕ} (node : Node) → FitsList region →
+    (list : HasKeys region values held) → AtCell list.cells i →
+    node.key ≡ key_of (value_at values (node_object region.first i)) →
+    node.next ≡ next_of (value_at values (node_object region.first i)) → node.key < key →
+    Stands region.first key (node_object region.first i) node list.cells
+at_stands {region} {values} key {i = i} node fits list at node_key node_next less =
+    let n = region.nodes in
+    let begin = region.first in
     let c = at.cell in
     let chain = IsChain-right begin values at.behind (c ∷ at.ahead)
     (subst (IsChain begin values) at.split list.chain) in
@@ -135,7 +134,7 @@ at_stands {layout} {values} key {i = i} node valid list at node_key node_next le
     let ahead_within = (each-right (IsNumber n) (numbers_of at.behind) (c.number ∷ numbers_of at.ahead)
     (subst (Each (IsNumber n)) numbers cells_within)).1 in
     let next = first_within n (numbers_of at.ahead) ahead_within in
-    let key_is : node.key ≡ c.key = omega (arith, node_key, low, next, valid.list) in
+    let key_is : node.key ≡ c.key = omega (arith, node_key, low, next, fits.few) in
     let rise = subst (Rise 0) at.split (rise_of list) in
     record {
       behind = at.behind ++ c ∷ [];
@@ -144,19 +143,19 @@ at_stands {layout} {values} key {i = i} node valid list at node_key node_next le
       lesser = less_behind key 0 at.behind c at.ahead rise (omega (arith, key_is, less));
       link = ap (node_object begin) (sym at.number) ∙ sym (link_after-push begin begin at.behind c);
       last = key_is ∙ sym (key_after-push 0 at.behind c);
-      next = omega (arith, node_next, low, next, valid.list);
+      next = omega (arith, node_next, low, next, fits.few);
     }
 
 -- A node that holds a lesser key, and whose key is above 0 or that the head names, is in the list, with lesser
 -- keys before it: in every map that stands for a list.
-pub stands-kept : {layout : Layout} {values : List Val} {store : Store} (key i : ℕ) (node : Node) → IsValid layout →
-    IsNumber layout.list i → (list : IsList layout values store) →
-    node.key ≡ key_of (value_at values (node_object (list_begin layout) i)) →
-    node.next ≡ next_of (value_at values (node_object (list_begin layout) i)) → node.key < key →
+pub stands-kept : {region : Region} {values : List Val} {held : List ℕ} (key i : ℕ) (node : Node) → FitsList region →
+    IsNumber region.nodes i → (list : HasKeys region values held) →
+    node.key ≡ key_of (value_at values (node_object region.first i)) →
+    node.next ≡ next_of (value_at values (node_object region.first i)) → node.key < key →
     (0 < node.key) ⊎ (first_of (numbers_of list.cells) ≡ i) →
-    Stands (list_begin layout) key (node_object (list_begin layout) i) node list.cells
-stands-kept key i node valid number list node_key node_next less (inl some) =
-    at_stands key node valid list (at_number i valid number list (omega (arith, some, node_key)))
+    Stands region.first key (node_object region.first i) node list.cells
+stands-kept key i node fits number list node_key node_next less (inl some) =
+    at_stands key node fits list (at_number i fits number list (omega (arith, some, node_key)))
     node_key node_next less
-stands-kept key i node valid number list node_key node_next less (inr named) =
-    at_stands key node valid list (at_first list.cells i number.0 named) node_key node_next less
+stands-kept key i node fits number list node_key node_next less (inr named) =
+    at_stands key node fits list (at_first list.cells i number.0 named) node_key node_next less

@@ -1,22 +1,21 @@
 -- A walk that lets reads go: what is known where it stands, and after a step.
-use Rattle.std.proofs.Common.{◌≡◌, ◌≢◌, ◌↔◌, ℕ, ◌<◌, ◌≤◌, List, length, IsTrue, false, arith, refl, sym, ◌∙◌, ap}
+use Rattle.std.proofs.Common.{◌≡◌, ◌≢◌, ◌↔◌, ℕ, ◌+◌, ◌<◌, ◌≤◌, List, length, IsTrue, false, arith, refl, sym, ◌∙◌, ap}
 use Rattle.std.proofs.Common.{subst, inl, inr}
 use Rattle.std.specs.Prelude.{Option, Some, None, IsSome, IfSome, ◌⊎◌, Ok}
 use Rattle.std.proofs.lemmas.Bool.{cases_eq, cases_Bool}
 use Rattle.dstm_model.specs.declared.value.Val.{Val}
-use Rattle.dstm_model.specs.declared.layout.Layout.{Layout}
-use Rattle.dstm_model.specs.Layout.{IsValid}
 use Rattle.dstm_model.specs.Map.{value_at}
-use Rattle.dstm_model.specs.Store.{Store}
-use Rattle.dstm_model.specs.Objects.{objects_of, list_begin, node_object}
+use Rattle.dstm_model.specs.Objects.{node_object}
 use Rattle.dstm_mem.specs.declared.memory.Mem.{Ghosts}
 use Rattle.dstm_mem.specs.Memory.{with_set, AgreesWith}
-use Rattle.dstm_mem.specs.Operations.{IsReady, Leads, OnlyReads}
+use Rattle.dstm_mem.specs.Operations.{Leads, OnlyReads}
 use Rattle.dstm_mem.proofs.Operations.{leads-then, only_reads-then}
-use Rattle.dstm_list.specs.List.{IsList, IsOfList, SameOutside, key_of, next_of, numbers_of, first_of}
+use Rattle.dstm_region.specs.declared.region.Region.{Region}
+use Rattle.dstm_region.specs.Region.{IsInside, size_of}
+use Rattle.dstm_list.specs.List.{FitsList, HasKeys, SameOutside, key_of, next_of, numbers_of, first_of}
 use Rattle.dstm_list.specs.declared.node.Node.{Node}
 use Rattle.dstm_list.specs.declared.walk.Place.{Place}
-use Rattle.dstm_list.specs.Place.{Stands}
+use Rattle.dstm_list.specs.Place.{IsReadyIn, Stands}
 use Rattle.dstm_list.proofs.Numbers.{IsNumber, each-left}
 use Rattle.dstm_list.proofs.Steps.{IsNext, head-of_list, node-of_list, next_within, next_greater, stands-start}
 use Rattle.dstm_list.proofs.Steps.{stands-next, used_within, first_within}
@@ -49,14 +48,14 @@ narrows-kept {M = M} old new laws live now place holds map admitted =
     )
 
 -- a map that is admitted, with what was set before the walk, stands for a list
-pub record At {S E : Type 0} (M : Ghosts S E) (layout : Layout) (start memory : S) (map : List Val)
-    (store : Store) : Type 0 where
-  pub valid : IsValid layout
-  pub declared : 0 < layout.list
-  pub size : length map ≡ objects_of layout
+pub record At {S E : Type 0} (M : Ghosts S E) (region : Region) (start memory : S) (map : List Val)
+    (held : List ℕ) : Type 0 where
+  pub fits : FitsList region
+  pub declared : 0 < region.nodes
+  pub size : region.first + size_of region ≤ length map
   pub agrees : AgreesWith map (M.held memory)
   pub same : (p : ℕ) → M.written memory p ≡ M.written start p
-  pub list : IsList layout (with_set map (M.written start)) store
+  pub list : HasKeys region (with_set map (M.written start)) held
 
 -- what the walk owes for a stop: its own read was not held before, and another one was, or is opened for writing
 pub record Owes {S E : Type 0} (M : Ghosts S E) (start memory : S) (stop : Stop) : Type 0 where
@@ -64,141 +63,141 @@ pub record Owes {S E : Type 0} (M : Ghosts S E) (start memory : S) (stop : Stop)
   pub other : stop.is_own ≡ false → IsSome (M.held start stop.object) ⊎ IsTrue (M.is_opened memory stop.object)
 
 -- the last stop is at a node that shows that it is in the list
-pub record Inner {S E : Type 0} (M : Ghosts S E) (memory : S) (layout : Layout) (key : ℕ)
+pub record Inner {S E : Type 0} (M : Ghosts S E) (memory : S) (region : Region) (key : ℕ)
     (head last : Stop) : Type 0 where
   pub number : ℕ
-  pub object : last.object ≡ node_object (list_begin layout) number
-  pub within : IsNumber layout.list number
+  pub object : last.object ≡ node_object region.first number
+  pub within : IsNumber region.nodes number
   pub less : last.node.key < key
   pub shown : (0 < last.node.key) ⊎ (Sees M memory head × (head.node.next ≡ number))
 
-abbrev pub Anchored : {S E : Type 0} → Ghosts S E → S → Layout → ℕ → Stop → Stop → Type 0
-Anchored M memory layout key head last = (last.object ≡ list_begin layout) ⊎ Inner M memory layout key head last
+abbrev pub Anchored : {S E : Type 0} → Ghosts S E → S → Region → ℕ → Stop → Stop → Type 0
+Anchored M memory region key head last = (last.object ≡ region.first) ⊎ Inner M memory region key head last
 
 -- the node before the last one
-pub record Older {S E : Type 0} (M : Ghosts S E) (layout : Layout) (start memory : S) (last older : Stop) : Type 0 where
+pub record Older {S E : Type 0} (M : Ghosts S E) (region : Region) (start memory : S) (last older : Stop) : Type 0 where
   pub seen : Sees M memory older
   pub owes : Owes M start memory older
-  pub in_list : IsOfList layout older.object
+  pub in_list : IsInside region older.object
   pub less : older.node.key < last.node.key
-  pub inner : older.object ≢ list_begin layout
-  pub last_inner : last.object ≢ list_begin layout
+  pub inner : older.object ≢ region.first
+  pub last_inner : last.object ≢ region.first
 
 -- a walk has led from one state of the memory to another and only read, and nothing but the list's objects
-pub record Way {S E : Type 0} (M : Ghosts S E) (layout : Layout) (start memory : S) (last : Stop) : Type 0 where
+pub record Way {S E : Type 0} (M : Ghosts S E) (region : Region) (start memory : S) (last : Stop) : Type 0 where
   pub leads : Leads M start memory (Ok last)
   pub looks : OnlyReads M start memory
-  pub holds : SameOutside layout (M.held start) (M.held memory)
-  pub opens : SameOutside layout (M.is_opened start) (M.is_opened memory)
+  pub holds : SameOutside region (M.held start) (M.held memory)
+  pub opens : SameOutside region (M.is_opened start) (M.is_opened memory)
 
 -- where a walk stands that began at one state of the memory and has come to another
-pub record Walking {S E : Type 0} (M : Ghosts S E) (layout : Layout) (key : ℕ) (start memory : S) (head : Stop)
+pub record Walking {S E : Type 0} (M : Ghosts S E) (region : Region) (key : ℕ) (start memory : S) (head : Stop)
     (behind : Option Stop) (last : Stop) : Type 0 where
-  pub way : Way M layout start memory last
-  pub head_at : head.object ≡ list_begin layout
+  pub way : Way M region start memory last
+  pub head_at : head.object ≡ region.first
   pub head_owes : Owes M start memory head
   pub head_seen : behind ≡ None → Sees M memory head
-  pub head_next : last.object ≡ list_begin layout → last.node.next ≡ head.node.next
-  pub last_in : IsOfList layout last.object
+  pub head_next : last.object ≡ region.first → last.node.next ≡ head.node.next
+  pub last_in : IsInside region last.object
   pub last_owes : Owes M start memory last
   pub last_seen : Sees M memory last
-  pub anchored : Anchored M memory layout key head last
-  pub older : IfSome behind (Older M layout start memory last)
-  pub few : (p : ℕ) → p ≢ last.object → p ≢ list_begin layout → IfSome behind (λ o. p ≢ o.object) →
+  pub anchored : Anchored M memory region key head last
+  pub older : IfSome behind (Older M region start memory last)
+  pub few : (p : ℕ) → p ≢ last.object → p ≢ region.first → IfSome behind (λ o. p ≢ o.object) →
       IsRead M memory p → IsSome (M.held start p)
 
 -- what is known of the last stop and of the next one
-pub record Next {S E : Type 0} (M : Ghosts S E) (layout : Layout) (key : ℕ) (start memory : S) (head : Stop)
+pub record Next {S E : Type 0} (M : Ghosts S E) (region : Region) (key : ℕ) (start memory : S) (head : Stop)
     (behind : Option Stop) (last next : Stop) : Type 0 where
-  pub way : Way M layout start memory next
+  pub way : Way M region start memory next
   pub head_seen : behind ≡ None → Sees M memory head
   pub last_seen : Sees M memory last
-  pub anchored : Anchored M memory layout key head last
-  pub next_at : next.object ≡ node_object (list_begin layout) last.node.next
-  pub next_within : last.node.next ≤ layout.list
+  pub anchored : Anchored M memory region key head last
+  pub next_at : next.object ≡ node_object region.first last.node.next
+  pub next_within : last.node.next ≤ region.nodes
   pub next_owes : Owes M start memory next
   pub next_seen : Sees M memory next
-  pub rises : last.object ≢ list_begin layout → last.node.key < next.node.key
+  pub rises : last.object ≢ region.first → last.node.key < next.node.key
 
 -- after the next node was opened
-pub record Opened {S E : Type 0} (M : Ghosts S E) (layout : Layout) (key : ℕ) (start memory : S) (head : Stop)
+pub record Opened {S E : Type 0} (M : Ghosts S E) (region : Region) (key : ℕ) (start memory : S) (head : Stop)
     (behind : Option Stop) (last next : Stop) : Type 0 where
-  pub stops : Next M layout key start memory head behind last next
+  pub stops : Next M region key start memory head behind last next
   pub last_apart : IfSome behind (λ o. last.object ≢ o.object)
   pub next_apart : IfSome behind (λ o. next.object ≢ o.object)
-  pub few : (p : ℕ) → p ≢ next.object → p ≢ last.object → p ≢ list_begin layout →
+  pub few : (p : ℕ) → p ≢ next.object → p ≢ last.object → p ≢ region.first →
       IfSome behind (λ o. p ≢ o.object) → IsRead M memory p → IsSome (M.held start p)
 
 -- after a step: the next node was opened, and what stands before the last two was let go
-pub record Advanced {S E : Type 0} (M : Ghosts S E) (layout : Layout) (key : ℕ) (start memory : S) (head : Stop)
+pub record Advanced {S E : Type 0} (M : Ghosts S E) (region : Region) (key : ℕ) (start memory : S) (head : Stop)
     (behind : Option Stop) (last next : Stop) : Type 0 where
-  pub stops : Next M layout key start memory head behind last next
+  pub stops : Next M region key start memory head behind last next
   pub head_owes : Owes M start memory head
   pub last_owes : Owes M start memory last
-  pub few : (p : ℕ) → p ≢ next.object → p ≢ last.object → p ≢ list_begin layout → IsRead M memory p →
+  pub few : (p : ℕ) → p ≢ next.object → p ≢ last.object → p ≢ region.first → IsRead M memory p →
       IsSome (M.held start p)
 
-module _ {S E : Type 0} {M : Ghosts S E} {layout : Layout} {start : S} where
+module _ {S E : Type 0} {M : Ghosts S E} {region : Region} {start : S} where
   -- ---- on a map that stands for a list
 
-  seen-value : {memory : S} {map : List Val} {store : Store} {stop : Stop} → At M layout start memory map store →
-      (sees : Sees M memory stop) → IsOfList layout stop.object →
+  seen-value : {memory : S} {map : List Val} {held : List ℕ} {stop : Stop} → At M region start memory map held →
+      (sees : Sees M memory stop) → IsInside region stop.object →
       value_at (with_set map (M.written start)) stop.object ≡ sees.value
   seen-value {map = map} {stop = stop} at sees within =
       sees-value map sees (omega (arith, at.size, within.1)) at.agrees at.same
 
-  named : {memory : S} {map : List Val} {store : Store} {head : Stop} (at : At M layout start memory map store) →
-      Sees M memory head → head.object ≡ list_begin layout → first_of (numbers_of at.list.cells) ≡ head.node.next
+  named : {memory : S} {map : List Val} {held : List ℕ} {head : Stop} (at : At M region start memory map held) →
+      Sees M memory head → head.object ≡ region.first → first_of (numbers_of at.list.cells) ≡ head.node.next
   named {map = map} {head = head} at sees at_begin =
-      let within = subst (IsOfList layout) (sym at_begin) (head-of_list layout at.declared) in
+      let within = subst (IsInside region) (sym at_begin) (head-of_list region at.declared) in
       let value = seen-value at sees within in
       let low = ap (λ v. v.low) (sym value ∙ ap (value_at (with_set map (M.written start))) at_begin
       ∙ at.list.head at.declared) in
-      let small = first_within layout.list (numbers_of at.list.cells)
-      (each-left (IsNumber layout.list) (numbers_of at.list.cells) at.list.free (used_within at.list)) in
-      omega (arith, sees.next, low, small, at.valid.list)
+      let small = first_within region.nodes (numbers_of at.list.cells)
+      (each-left (IsNumber region.nodes) (numbers_of at.list.cells) at.list.free (used_within at.list)) in
+      omega (arith, sees.next, low, small, at.fits.few)
 
   -- the last stop is in the list, with lesser keys before it
-  pub stands-held : {memory : S} {map : List Val} {store : Store} (key : ℕ) (head : Stop) {last : Stop}
-      (at : At M layout start memory map store) → head.object ≡ list_begin layout → Sees M memory last →
-      Anchored M memory layout key head last → Stands (list_begin layout) key last.object last.node at.list.cells
+  pub stands-held : {memory : S} {map : List Val} {held : List ℕ} (key : ℕ) (head : Stop) {last : Stop}
+      (at : At M region start memory map held) → head.object ≡ region.first → Sees M memory last →
+      Anchored M memory region key head last → Stands region.first key last.object last.node at.list.cells
   stands-held {map = map} key head {last = last} at head_at sees (inl at_begin) =
-      let begin = list_begin layout in
+      let begin = region.first in
       let values = with_set map (M.written start) in
-      let within = subst (IsOfList layout) (sym at_begin) (head-of_list layout at.declared) in
+      let within = subst (IsInside region) (sym at_begin) (head-of_list region at.declared) in
       let value : value_at values begin ≡ sees.value =
       ap (value_at values) (sym at_begin) ∙ seen-value at sees within in
       subst (λ o. Stands begin key o last.node at.list.cells) (sym at_begin)
-      (stands-start key last.node at.valid at.declared at.list (sees.key ∙ ap key_of (sym value))
+      (stands-start key last.node at.fits at.declared at.list (sees.key ∙ ap key_of (sym value))
       (sees.next ∙ ap next_of (sym value)))
   stands-held {map = map} key head {last = last} at head_at sees (inr inner) =
-      let begin = list_begin layout in
+      let begin = region.first in
       let i = inner.number in
       let values = with_set map (M.written start) in
-      let node_in = node-of_list layout i at.declared inner.within.1 in
-      let within = subst (IsOfList layout) (sym inner.object) node_in in
+      let node_in = node-of_list region i at.declared inner.within.1 in
+      let within = subst (IsInside region) (sym inner.object) node_in in
       let value : value_at values (node_object begin i) ≡ sees.value =
       ap (value_at values) (sym inner.object) ∙ seen-value at sees within in
       subst (λ o. Stands begin key o last.node at.list.cells) (sym inner.object)
-      (stands-kept key i last.node at.valid inner.within at.list (sees.key ∙ ap key_of (sym value))
+      (stands-kept key i last.node at.fits inner.within at.list (sees.key ∙ ap key_of (sym value))
       (sees.next ∙ ap next_of (sym value)) inner.less (elim inner.shown [
         | inl some ↦ inl some
         | inr (seen, is_next) ↦ inr (named at seen head_at ∙ is_next)
       ]))
 
   -- the next node is the first one ahead
-  pub next-held : {memory : S} {map : List Val} {store : Store} {key : ℕ} (last : Stop) {next : Stop}
-      (at : At M layout start memory map store)
-      (stands : Stands (list_begin layout) key last.object last.node at.list.cells) → Sees M memory next →
-      next.object ≡ node_object (list_begin layout) last.node.next → last.node.next ≢ 0 →
+  pub next-held : {memory : S} {map : List Val} {held : List ℕ} {key : ℕ} (last : Stop) {next : Stop}
+      (at : At M region start memory map held)
+      (stands : Stands region.first key last.object last.node at.list.cells) → Sees M memory next →
+      next.object ≡ node_object region.first last.node.next → last.node.next ≢ 0 →
       IsNext stands.ahead last.node.next next.node
   next-held {map = map} last {next = next} at stands sees next_at some =
-      let begin = list_begin layout in
+      let begin = region.first in
       let values = with_set map (M.written start) in
-      let node_in = node-of_list layout last.node.next at.declared (next_within at.list stands) in
+      let node_in = node-of_list region last.node.next at.declared (next_within at.list stands) in
       let value : value_at values (node_object begin last.node.next) ≡ sees.value = ap (value_at values) (sym next_at)
-      ∙ seen-value at sees (subst (IsOfList layout) (sym next_at) node_in) in
-      stands-next next.node at.valid at.list stands some (sees.key ∙ ap key_of (sym value))
+      ∙ seen-value at sees (subst (IsInside region) (sym next_at) node_in) in
+      stands-next next.node at.fits at.list stands some (sees.key ∙ ap key_of (sym value))
       (sees.next ∙ ap next_of (sym value))
 
 -- ---- what is the walk's own
@@ -227,24 +226,24 @@ module _ {S E : Type 0} (M : Ghosts S E) (start : S) where
     ];
   }
 
-  module _ (layout : Layout) where
+  module _ (region : Region) where
     own_none : {memory : S} {head : Stop} (behind : Option Stop) (last : Stop) (p : ℕ) →
-        Owes M start memory head → IfSome behind (Older M layout start memory last) →
+        Owes M start memory head → IfSome behind (Older M region start memory last) →
         IsOwnOfTwo head behind p → M.held start p ≡ None
     own_none None last p owes older own = absurd own
     own_none (Some o) last p owes older (inl own) = ap (M.held start) own.0 ∙ older.owes.own own.1
     own_none (Some o) last p owes older (inr own) = ap (M.held start) own.0 ∙ owes.own own.1
 
     own_in : (memory : S) (head : Stop) (behind : Option Stop) (last : Stop) (p : ℕ) →
-        IsOfList layout head.object → IfSome behind (Older M layout start memory last) →
-        IsOwnOfTwo head behind p → IsOfList layout p
+        IsInside region head.object → IfSome behind (Older M region start memory last) →
+        IsOwnOfTwo head behind p → IsInside region p
     own_in memory head None last p head_in older own = absurd own
-    own_in memory head (Some o) last p head_in older (inl own) = subst (IsOfList layout) (sym own.0) older.in_list
-    own_in memory head (Some o) last p head_in older (inr own) = subst (IsOfList layout) (sym own.0) head_in
+    own_in memory head (Some o) last p head_in older (inl own) = subst (IsInside region) (sym own.0) older.in_list
+    own_in memory head (Some o) last p head_in older (inr own) = subst (IsInside region) (sym own.0) head_in
 
     anchored-later : {old new : S} {key : ℕ} {head last : Stop} →
-        (last.object ≢ list_begin layout → (0 < last.node.key) ⊎ (Sees M old head → Sees M new head)) →
-        Anchored M old layout key head last → Anchored M new layout key head last
+        (last.object ≢ region.first → (0 < last.node.key) ⊎ (Sees M old head → Sees M new head)) →
+        Anchored M old region key head last → Anchored M new region key head last
     anchored-later keeps (inl at_begin) = inl at_begin
     anchored-later keeps (inr inner) =
         inr (record {
@@ -262,8 +261,8 @@ module _ {S E : Type 0} (M : Ghosts S E) (start : S) where
         })
 
     older_apart : {old new : S} (behind : Option Stop) (last : Stop) {stop : Stop} →
-        IfSome behind (Older M layout start old last) → ((o : Stop) → Sees M old o → Sees M new o) →
-        Sees M new stop → ((o : Stop) → o.node.key < last.node.key → last.object ≢ list_begin layout →
+        IfSome behind (Older M region start old last) → ((o : Stop) → Sees M old o → Sees M new o) →
+        Sees M new stop → ((o : Stop) → o.node.key < last.node.key → last.object ≢ region.first →
         o.node.key < stop.node.key) → IfSome behind (λ o. stop.object ≢ o.object)
     older_apart None last older later sees less = tt
     older_apart (Some o) last {stop = stop} older later sees less =
@@ -271,13 +270,13 @@ module _ {S E : Type 0} (M : Ghosts S E) (start : S) where
         sees-apart sees (later o older.seen) (λ e. omega (arith, e, below))
 
     opened : {Began : S → List Val → Type 0} {old new : S} (key : ℕ) (head : Stop) (behind : Option Stop)
-        (last next : Stop) (o : ℕ) → Laws M Began → IsReady M (objects_of layout) (IsList layout) start →
-        IsValid layout → 0 < layout.list → Walking M layout key start old head behind last →
-        last.node.next ≢ 0 → o ≡ node_object (list_begin layout) last.node.next → Visits M old new o next →
-        Leads M old new (Ok next) → OnlyReads M old new → Opened M layout key start new head behind last next
-    opened {old = old} {new = new} key head behind last next o laws ready valid declared so_far some o_is visits
+        (last next : Stop) (o : ℕ) → Laws M Began → IsReadyIn M region start →
+        FitsList region → 0 < region.nodes → Walking M region key start old head behind last →
+        last.node.next ≢ 0 → o ≡ node_object region.first last.node.next → Visits M old new o next →
+        Leads M old new (Ok next) → OnlyReads M old new → Opened M region key start new head behind last next
+    opened {old = old} {new = new} key head behind last next o laws ready fits declared so_far some o_is visits
         visit_leads visit_looks =
-        let begin = list_begin layout in
+        let begin = region.first in
         let leads = leads-then M so_far.way.leads visit_leads in
         let looks = only_reads-then M so_far.way.leads so_far.way.looks visit_looks in
         let later = λ (stop : Stop) (sees : Sees M old stop). sees-opened sees visits.held visit_looks.sets in
@@ -286,11 +285,11 @@ module _ {S E : Type 0} (M : Ghosts S E) (start : S) where
         let next_at = visits.object ∙ o_is in
         let (map, admitted) = leads.admits in
         let in_start = leads.narrows map admitted in
-        let (store, list) = ready.lawful map in_start in
-        let at : At M layout start new map store = record {
-          valid = valid;
+        let (held, list) = ready.lawful map in_start in
+        let at : At M region start new map held = record {
+          fits = fits;
           declared = declared;
-          size = laws.sizes start map in_start ∙ ready.objects;
+          size = omega (arith, laws.sizes start map in_start, ready.objects);
           agrees = laws.agrees new map admitted;
           same = looks.sets;
           list = list;
@@ -299,10 +298,10 @@ module _ {S E : Type 0} (M : Ghosts S E) (start : S) where
         let ahead = next-held last at stands visits.sees next_at some in
         let rises = λ (inner : last.object ≢ begin). next_greater next.node list stands ahead inner in
         let within = next_within list stands in
-        let in_list : IsOfList layout o =
-        subst (IsOfList layout) (sym o_is) (node-of_list layout last.node.next declared within) in
-        let other = λ (p : ℕ) (outside : ¬ IsOfList layout p) (e : p ≡ o).
-        outside (subst (IsOfList layout) (sym e) in_list) in
+        let in_list : IsInside region o =
+        subst (IsInside region) (sym o_is) (node-of_list region last.node.next declared within) in
+        let other = λ (p : ℕ) (outside : ¬ IsInside region p) (e : p ≡ o).
+        outside (subst (IsInside region) (sym e) in_list) in
         let not_last : next.object ≢ last.object = elim (cases_eq last.object begin) [
           | inl at_begin ↦ λ e. omega (arith, e, at_begin, next_at)
           | inr inner ↦ sees-apart visits.sees last_seen (λ e. omega (arith, e, rises inner))
@@ -348,8 +347,8 @@ module _ {S E : Type 0} (M : Ghosts S E) (start : S) where
         }
 
     older_later : {old new : S} {o : ℕ} {next : Stop} (behind : Option Stop) (last : Stop) →
-        IfSome behind (Older M layout start old last) → Visits M old new o next → OnlyReads M old new →
-        IfSome behind (Older M layout start new last)
+        IfSome behind (Older M region start old last) → Visits M old new o next → OnlyReads M old new →
+        IfSome behind (Older M region start new last)
     older_later None last older visits looks = tt
     older_later {o = o} (Some stop) last older visits looks = record {
       seen = sees-opened older.seen visits.held looks.sets;
@@ -360,12 +359,12 @@ module _ {S E : Type 0} (M : Ghosts S E) (start : S) where
       last_inner = older.last_inner;
     }
 
-    older_inner : (memory : S) (behind : Option Stop) (last : Stop) → IfSome behind (Older M layout start memory last) →
-        IsSome behind → last.object ≢ list_begin layout
+    older_inner : (memory : S) (behind : Option Stop) (last : Stop) → IfSome behind (Older M region start memory last) →
+        IsSome behind → last.object ≢ region.first
     older_inner memory None last older some = absurd (let no : ⊥ = cc in no)
     older_inner memory (Some o) last older some = older.last_inner
 
-    older_less : (memory : S) (behind : Option Stop) (last : Stop) → IfSome behind (Older M layout start memory last) →
+    older_less : (memory : S) (behind : Option Stop) (last : Stop) → IfSome behind (Older M region start memory last) →
         (behind ≡ None) ⊎ (0 < last.node.key)
     older_less memory None last older = inl refl
     older_less memory (Some o) last older = inr (omega (arith, older.less))
@@ -376,7 +375,7 @@ module _ {S E : Type 0} (M : Ghosts S E) (start : S) where
     none_same head (Some o) p none lets = absurd (let no : ⊥ = cc in no)
 
     few_left : {mid new : S} (head : Stop) (behind : Option Stop) (last : Stop) (p : ℕ) →
-        head.object ≡ list_begin layout → p ≢ list_begin layout → IfSome behind (Older M layout start mid last) →
+        head.object ≡ region.first → p ≢ region.first → IfSome behind (Older M region start mid last) →
         LetsGo M (IsOwnOfTwo head behind) mid new →
         IfSome behind (λ o. IsTrue o.is_own → ¬ IsRead M new o.object) → IsRead M new p →
         (IfSome behind (λ o. p ≢ o.object) → IsRead M mid p → IsSome (M.held start p)) → IsSome (M.held start p)
@@ -400,16 +399,16 @@ module _ {S E : Type 0} (M : Ghosts S E) (start : S) where
         ]
 
     advanced : {Began : S → List Val → Type 0} {mid new : S} {key : ℕ} {head : Stop} {behind : Option Stop}
-        {last next : Stop} → Laws M Began → IsTrue (M.is_live start) → head.object ≡ list_begin layout →
-        0 < layout.list → Owes M start mid head → Owes M start mid last →
-        IfSome behind (Older M layout start mid last) → Opened M layout key start mid head behind last next →
+        {last next : Stop} → Laws M Began → IsTrue (M.is_live start) → head.object ≡ region.first →
+        0 < region.nodes → Owes M start mid head → Owes M start mid last →
+        IfSome behind (Older M region start mid last) → Opened M region key start mid head behind last next →
         LetsGo M (IsOwnOfTwo head behind) mid new → IfSome behind (λ o. IsTrue o.is_own → ¬ IsRead M new o.object) →
-        Advanced M layout key start new head behind last next
+        Advanced M region key start new head behind last next
     advanced {mid = mid} {new = new} {head = head} {behind = behind} {last = last} {next = next} laws live head_at
         declared head_owes last_owes older at lets gone =
         let from = at.stops in
         let opened_stays = λ (p : ℕ) (is : IsTrue (M.is_opened mid p)). subst IsTrue (sym (lets.opened p)) is in
-        let head_in = subst (IsOfList layout) (sym head_at) (head-of_list layout declared) in
+        let head_in = subst (IsInside region) (sym head_at) (head-of_list region declared) in
         let last_kept : M.held new last.object ≡ M.held mid last.object =
         kept-other last.object lets (not_own head behind last.object
         (λ some e. older_inner mid behind last older some (e ∙ head_at)) at.last_apart) in
@@ -469,34 +468,34 @@ module _ {S E : Type 0} (M : Ghosts S E) (start : S) where
 
     -- a step: the next node is opened, and what stands before the last two is let go
     pub stepped : {Began : S → List Val → Type 0} {old mid new : S} {key : ℕ} {head : Stop} {behind : Option Stop}
-        {last next : Stop} {o : ℕ} → Laws M Began → IsReady M (objects_of layout) (IsList layout) start →
-        IsValid layout → 0 < layout.list → Walking M layout key start old head behind last →
-        last.node.next ≢ 0 → o ≡ node_object (list_begin layout) last.node.next → Visits M old mid o next →
+        {last next : Stop} {o : ℕ} → Laws M Began → IsReadyIn M region start →
+        FitsList region → 0 < region.nodes → Walking M region key start old head behind last →
+        last.node.next ≢ 0 → o ≡ node_object region.first last.node.next → Visits M old mid o next →
         Leads M old mid (Ok next) → OnlyReads M old mid → LetsGo M (IsOwnOfTwo head behind) mid new →
         IfSome behind (λ o. IsTrue o.is_own → ¬ IsRead M new o.object) →
-        Advanced M layout key start new head behind last next
-    stepped {old = old} {mid = mid} {key} {head} {behind} {last} {next} {o} laws ready valid declared so_far some o_is visits
-        visit_leads visit_looks lets gone =
+        Advanced M region key start new head behind last next
+    stepped {old = old} {mid = mid} {key} {head} {behind} {last} {next} {o} laws ready fits declared so_far some o_is
+        visits visit_leads visit_looks lets gone =
         let later = λ (stop : Stop) (owes : Owes M start old stop). owes-later owes (visits.opened.kept stop.object) in
         advanced laws ready.live so_far.head_at declared (later head so_far.head_owes)
         (later last so_far.last_owes) (older_later behind last so_far.older visits visit_looks)
-        (opened key head behind last next o laws ready valid declared so_far some o_is visits visit_leads visit_looks)
+        (opened key head behind last next o laws ready fits declared so_far some o_is visits visit_leads visit_looks)
         lets gone
 
-    older_none : (memory : S) (behind : Option Stop) (last : Stop) → IfSome behind (Older M layout start memory last) →
-        last.object ≡ list_begin layout → behind ≡ None
+    older_none : (memory : S) (behind : Option Stop) (last : Stop) → IfSome behind (Older M region start memory last) →
+        last.object ≡ region.first → behind ≡ None
     older_none memory None last older at_begin = refl
     older_none memory (Some o) last older at_begin = absurd (older.last_inner at_begin)
 
     newer : {new : S} (behind : Option Stop) (head last next : Stop) →
         IfSome behind (λ stop. (stop ≡ last) × (last.object ≢ head.object)) →
-        (last.object ≢ head.object → Older M layout start new next last) → IfSome behind (Older M layout start new next)
+        (last.object ≢ head.object → Older M region start new next last) → IfSome behind (Older M region start new next)
     newer None head last next is older = tt
-    newer (Some stop) head last next is older = subst (Older M layout start _ next) (sym is.0) (older is.1)
+    newer (Some stop) head last next is older = subst (Older M region start _ next) (sym is.0) (older is.1)
 
-    not_last : (behind : Option Stop) (head last : Stop) (p : ℕ) → head.object ≡ list_begin layout →
+    not_last : (behind : Option Stop) (head last : Stop) (p : ℕ) → head.object ≡ region.first →
         (behind ≡ None → last.object ≡ head.object) →
-        IfSome behind (λ stop. (stop ≡ last) × (last.object ≢ head.object)) → p ≢ list_begin layout →
+        IfSome behind (λ stop. (stop ≡ last) × (last.object ≢ head.object)) → p ≢ region.first →
         IfSome behind (λ o. p ≢ o.object) → p ≢ last.object
     not_last None head last p head_at none some not_begin not_older e = not_begin (e ∙ none refl ∙ head_at)
     not_last (Some stop) head last p head_at none some not_begin not_older e =
@@ -504,14 +503,14 @@ module _ {S E : Type 0} (M : Ghosts S E) (start : S) where
 
     -- at the next node, whose key is less than the one that is looked for
     pub walking-on : {old new : S} {key : ℕ} {head : Stop} {before : Option Stop} {last next : Stop}
-        (behind : Option Stop) → 0 < layout.list → Walking M layout key start old head before last →
-        last.node.next ≢ 0 → Advanced M layout key start new head before last next → next.node.key < key →
+        (behind : Option Stop) → 0 < region.nodes → Walking M region key start old head before last →
+        last.node.next ≢ 0 → Advanced M region key start new head before last next → next.node.key < key →
         (behind ≡ None → last.object ≡ head.object) →
         IfSome behind (λ stop. (stop ≡ last) × (last.object ≢ head.object)) →
-        Walking M layout key start new head behind next
+        Walking M region key start new head behind next
     walking-on {old = old} {new = new} {head = head} {before = before} {last = last} {next = next} behind declared
         so_far some at less none is_last =
-        let begin = list_begin layout in
+        let begin = region.first in
         let stops = at.stops in
         let not_begin : next.object ≢ begin = λ e. omega (arith, e, stops.next_at) in
         let first = λ (at_begin : last.object ≡ begin). older_none old before last so_far.older at_begin in
@@ -521,8 +520,8 @@ module _ {S E : Type 0} (M : Ghosts S E) (start : S) where
           head_owes = at.head_owes;
           head_seen = λ is. stops.head_seen (first (none is ∙ so_far.head_at));
           head_next = λ e. absurd (not_begin e);
-          last_in = subst (IsOfList layout) (sym stops.next_at)
-              (node-of_list layout last.node.next declared stops.next_within);
+          last_in = subst (IsInside region) (sym stops.next_at)
+              (node-of_list region last.node.next declared stops.next_within);
           last_owes = stops.next_owes;
           last_seen = stops.next_seen;
           anchored = inr (record {
@@ -548,14 +547,15 @@ module _ {S E : Type 0} (M : Ghosts S E) (start : S) where
         }
 
     -- what a map says that is admitted where the walk stands
-    abbrev pub at-map : {Began : S → List Val → Type 0} {new : S} {last : Stop} {map : List Val} {store : Store} →
-        Laws M Began → IsReady M (objects_of layout) (IsList layout) start → IsValid layout → 0 < layout.list →
-        Way M layout start new last → M.Admits new map → IsList layout (with_set map (M.written start)) store →
-        At M layout start new map store
-    at-map {new = new} {map = map} laws ready valid declared way admitted list = record {
-      valid = valid;
+    abbrev pub at-map : {Began : S → List Val → Type 0} {new : S} {last : Stop} {map : List Val} {held : List ℕ} →
+        Laws M Began → IsReadyIn M region start → FitsList region → 0 < region.nodes →
+        Way M region start new last → M.Admits new map → HasKeys region (with_set map (M.written start)) held →
+        At M region start new map held
+    at-map {new = new} {map = map} laws ready fits declared way admitted list = record {
+      fits = fits;
       declared = declared;
-      size = laws.sizes start map (way.leads.narrows map admitted) ∙ ready.objects;
+      size = subst (λ n. region.first + size_of region ≤ n)
+          (sym (laws.sizes start map (way.leads.narrows map admitted))) ready.objects;
       agrees = laws.agrees new map admitted;
       same = way.looks.sets;
       list = list;
@@ -563,21 +563,21 @@ module _ {S E : Type 0} (M : Ghosts S E) (start : S) where
 
     -- the reads that are added, where the walk ends before a node
     pub adds-next : {new : S} {key : ℕ} {head : Stop} {behind : Option Stop} {last next : Stop} (place : Place) →
-        Advanced M layout key start new head behind last next → place.link ≡ last.object →
-        place.before ≡ last.node → AddsToPlace M layout start new place
+        Advanced M region key start new head behind last next → place.link ≡ last.object →
+        place.before ≡ last.node → AddsToPlace M region start new place
     adds-next {next = next} place at link before = record {
       other = next.object;
-      node = λ some. at.stops.next_at ∙ ap (λ (n : Node). node_object (list_begin layout) n.next) (sym before);
+      node = λ some. at.stops.next_at ∙ ap (λ (n : Node). node_object region.first n.next) (sym before);
       each = λ p not_link not_begin not_next read.
           at.few p not_next (λ e. not_link (e ∙ sym link)) not_begin read;
     }
 
     -- and at the end of the list
     pub adds-end : {new : S} (key : ℕ) (head : Stop) (behind : Option Stop) (last : Stop) →
-        Walking M layout key start new head behind last →
-        AddsToPlace M layout start new (record { link = last.object; before = last.node; node = None })
+        Walking M region key start new head behind last →
+        AddsToPlace M region start new (record { link = last.object; before = last.node; node = None })
     adds-end key head None last at = record {
-      other = list_begin layout;
+      other = region.first;
       node = λ some. absurd (let no : ⊥ = cc in no);
       each = λ p not_l not_begin _ read.
           at.few p not_l not_begin tt read;

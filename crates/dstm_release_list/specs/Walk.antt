@@ -2,12 +2,12 @@
 use Rattle.std.specs.Prelude.{◌≡◌, ◌≢◌, ℕ, ◌≤◌, List, length, Contains, IsTrue, false, None, Some, Option, IsSome, ◌⊎◌}
 use Rattle.std.specs.Option.{option_or}
 use Rattle.dstm_model.specs.declared.value.Val.{Val}
-use Rattle.dstm_model.specs.declared.layout.Layout.{Layout}
 use Rattle.dstm_model.specs.declared.reply.Reply.{Reply}
 use Rattle.dstm_model.specs.declared.reply.Reply.TheVariants as reply
-use Rattle.dstm_model.specs.Objects.{list_begin, node_object}
+use Rattle.dstm_model.specs.Objects.{node_object}
 use Rattle.dstm_mem.specs.declared.memory.Mem.{Ghosts}
 use Rattle.dstm_mem.specs.Memory.{HoldsAlso, MarksAtMost}
+use Rattle.dstm_region.specs.declared.region.Region.{Region}
 use Rattle.dstm_list.specs.List.{key_of, next_of}
 use Rattle.dstm_list.specs.Reads.{IsRead}
 use Rattle.dstm_list.specs.declared.walk.Place.{Place}
@@ -50,10 +50,10 @@ pub record LetsGo {S E : Type 0} (M : Ghosts S E) (Own : ℕ → Type 0) (old ne
 
 -- The reads that a walk to a place adds are at most those of the object that links to the place, of the head, and of
 -- one object more, which is the node that holds the key where there is one.
-pub record AddsToPlace {S E : Type 0} (M : Ghosts S E) (layout : Layout) (old new : S) (place : Place) : Type 0 where
+pub record AddsToPlace {S E : Type 0} (M : Ghosts S E) (region : Region) (old new : S) (place : Place) : Type 0 where
   pub other : ℕ
-  pub node : IsSome place.node → other ≡ node_object (list_begin layout) place.before.next
-  pub each : (p : ℕ) → p ≢ place.link → p ≢ list_begin layout → p ≢ other → IsRead M new p → IsSome (M.held old p)
+  pub node : IsSome place.node → other ≡ node_object region.first place.before.next
+  pub each : (p : ℕ) → p ≢ place.link → p ≢ region.first → p ≢ other → IsRead M new p → IsSome (M.held old p)
 
 -- at most so many objects are reads now that were not held before
 pub record AddsAtMost {S E : Type 0} (most : ℕ) (M : Ghosts S E) (old new : S) : Type 0 where

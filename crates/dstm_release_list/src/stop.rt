@@ -1,12 +1,12 @@
 ghost use Rattle.std.specs.Prelude.{◌≡◌, ◌≢◌, ℕ, ◌<◌, ◌⊎◌, IsTrue, false, None, IfOk, OnOk, IfSome};
-ghost use Rattle.dstm_model.specs.Layout.{IsValid};
+ghost use Rattle.dstm_list.specs.List.{FitsList};
 ghost use Rattle.dstm_mem.specs.Operations.{Leads, OnlyReads};
 ghost use Rattle.dstm_list.specs.Reads.{IsRead};
 ghost use Rattle.dstm_release_list.specs.Walk.{Visits, IsOwn, IsOwnOfTwo, LetsGo};
 
-use dstm_list::{Node, node_object};
+use dstm_list::{Node, node_object_in};
 use dstm_mem::Release;
-use dstm_model::Layout;
+use dstm_region::Region;
 
 /// An object of the list that a walk opened.
 #[derive(Clone, Copy)]
@@ -52,8 +52,8 @@ pub fn visit<M: Release>(mem: &mut M, object: u32) -> Result<Stop, M::Err>
 }
 
 /// Lets the node go that stands before the last two, and with the first node the head.
-pub fn let_go<M: Release>(mem: &mut M, layout: &Layout, head: Stop, older: Option<Stop>)
-    requires valid { IsValid layout.now }
+pub fn let_go<M: Release>(mem: &mut M, region: Region, head: Stop, older: Option<Stop>)
+    requires fits { FitsList region }
     requires head { head.object < M.Mem.objects mem.old }
     requires exists { IfSome older (λ stop. stop.object < M.Mem.objects mem.old) }
     requires live { IsTrue (M.Mem.is_live mem.old) }
@@ -65,7 +65,7 @@ pub fn let_go<M: Release>(mem: &mut M, layout: &Layout, head: Stop, older: Optio
         return;
     };
     leave(mem, older);
-    if older.object == node_object(layout, head.node.next) {
+    if older.object == node_object_in(region, head.node.next) {
         leave(mem, head);
     }
 }

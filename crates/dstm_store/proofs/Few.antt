@@ -14,6 +14,7 @@ use Rattle.dstm_mem.specs.declared.memory.Mem.{Ghosts}
 use Rattle.dstm_mem.specs.Memory.{HoldsAtMost}
 use Rattle.dstm_mem.specs.Operations.{IsFresh, OnlyReads, OpensToSet}
 use Rattle.dstm_mem.specs.Operates.{Applies}
+use Rattle.dstm_region.specs.Region.{list_region}
 use Rattle.dstm_list.specs.List.{IsList, IsOfList, SameButThree}
 use Rattle.dstm_list.specs.Reads.{IsRead}
 use Rattle.dstm_release_list.specs.Walk.{AddsAtMost, most_of_insert, most_of_remove}
@@ -59,8 +60,8 @@ module _ {S E : Type 0} (M : Ghosts S E) where
 
   -- one that sets three objects touches these, too
   pub touches-sets : {old new : S} (layout : Layout) (most k : ℕ) → k + 3 ≤ most → M.all_write (M.place old) ≡ false →
-      OpensToSet M old new → SameButThree layout (M.written old) (M.written new) → AddsAtMost k M old new →
-      TouchesAtMost most M old new
+      OpensToSet M old new → SameButThree (list_region layout) (M.written old) (M.written new) →
+      AddsAtMost k M old new → TouchesAtMost most M old new
   touches-sets {old} {new} layout most k fits off marks same adds =
       let link = same.0 in
       let node = node_object (list_begin layout) same.1.0 in
@@ -108,7 +109,7 @@ module _ {S E : Type 0} (M : Ghosts S E) where
       most_of Yes + 3 ≤ most → ((reply : Reply) → reply ≢ Yes → most_of reply ≤ most) →
       IfOk r (λ reply. AddsAtMost (most_of reply) M old new) → IfOk r (λ reply. Unit {0} → OpensToSet M old new) →
       IfOk r (λ reply. reply ≢ Yes → OnlyReads M old new) →
-      OnOk r (SameButThree layout (M.written old) (M.written new)) → M.all_write (M.place old) ≡ false →
+      OnOk r (SameButThree (list_region layout) (M.written old) (M.written new)) → M.all_write (M.place old) ≡ false →
       OnOk r (TouchesAtMost most M old new)
   touches-change old new layout most most_of (Ok reply) fits_yes fits adds marks quiet same off =
       elim (cases_Yes reply) [

@@ -5,6 +5,7 @@ use Rattle.dstm_model.specs.declared.value.Val.{Val}
 use Rattle.dstm_model.specs.declared.layout.Layout.{Layout}
 use Rattle.dstm_model.specs.Layout.{IsValid}
 use Rattle.dstm_model.specs.Store.{Store}
+use Rattle.dstm_region.specs.Region.{tree_region}
 use Rattle.dstm_list.proofs.Lists.{keys-unique}
 use Rattle.dstm_tree.proofs.Nodes.{items-unique}
 use Rattle.dstm_store.specs.Whole.{StandsFor}
@@ -16,12 +17,13 @@ stands-for-one layout map one two valid a b =
     let within : layout.accounts ≤ length map = omega (arith, a.objects) in
     let balances : one.balances ≡ two.balances =
     sym (balances-read layout map one within a.bank) ∙ balances-read layout map two within b.bank in
-    let keys : one.keys ≡ two.keys = keys-unique valid a.list b.list in
+    let keys : one.keys ≡ two.keys = keys-unique (omega (arith, valid.list)) a.list.holds b.list.holds in
     let items : one.items ≡ two.items = elim (cases_eq layout.tree 0) [
       | inl none ↦ a.no_tree none ∙ sym (b.no_tree none)
       | inr some ↦
           let declared : 0 < layout.tree = omega (arith, some) in
-          items-unique layout map one two (omega (arith, valid.tree)) (a.tree declared) (b.tree declared)
+          items-unique (tree_region layout) map one.items two.items (omega (arith, valid.tree)) (a.tree declared).holds
+          (b.tree declared).holds
     ] in
     ap (λ (l : Layout). record one { layout = l }) (a.laid_out ∙ sym b.laid_out)
     ∙ ap (λ (bs : List ℕ). record one { layout = two.layout; balances = bs }) balances

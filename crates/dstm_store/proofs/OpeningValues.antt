@@ -9,13 +9,16 @@ use Rattle.std.proofs.lemmas.List.FromFn.{length-map-range_with_len, get_or-map-
 use Rattle.std.proofs.lemmas.List.Folds.{sum_by-replicate}
 use Rattle.dstm_model.specs.declared.value.Val.{Val}
 use Rattle.dstm_model.specs.declared.layout.Layout.{Layout}
+use Rattle.dstm_model.specs.declared.layout.TheConstants.{KEY_LIMIT}
 use Rattle.dstm_model.specs.Map.{value_at, no_value}
 use Rattle.dstm_model.specs.Store.{opening_store}
 use Rattle.dstm_model.specs.Objects.{objects_of, structure_objects, list_begin, tree_begin, free_object}
 use Rattle.dstm_model.specs.Objects.{node_object, IsBank, plain}
 use Rattle.dstm_model.proofs.Objects.{structure_objects-declared}
-use Rattle.dstm_list.proofs.Lists.{IsOpening, list-opening}
-use Rattle.dstm_tree.proofs.Opening.{next_of, next-last, next-more, IsTree-opening}
+use Rattle.dstm_region.specs.Region.{list_region, tree_region}
+use Rattle.dstm_list.proofs.Lists.{IsOpening}
+use Rattle.dstm_list.proofs.Layouts.{list-opening}
+use Rattle.dstm_tree.proofs.Opening.{next_of, next-last, next-more, HasItems-opening}
 use Rattle.dstm_store.specs.Whole.{StandsFor}
 use Rattle.dstm_store.specs.Opening.{opening_structure, opening_values}
 
@@ -132,7 +135,7 @@ list_node layout i some within =
     (omega (arith, within, structure_objects-declared layout.list some)) (omega arith)
     ∙ named layout.list i some within
 
-list : (layout : Layout) → 0 < layout.list → IsOpening layout (opening_values layout)
+list : (layout : Layout) → 0 < layout.list → IsOpening (list_region layout) (opening_values layout)
 list layout some = record {
   head = at_list layout 0 (list_begin layout) (omega (arith, structure_objects-declared layout.list some))
       (omega arith)
@@ -159,9 +162,12 @@ stands-opening layout = record {
   list = list-opening layout (opening_values layout) (list layout);
   tree = λ some.
       let free : free_object (tree_begin layout) ≡ node_object (tree_begin layout) 0 = omega arith in
-      IsTree-opening layout (opening_values layout) (opening_store layout) refl refl
-      (at_tree layout 0 (tree_begin layout) (omega arith) ∙ head-opening_structure layout.tree)
-      (ap (value_at (opening_values layout)) free ∙ tree_node layout 0 some (omega arith))
-      (λ i _ most. tree_node layout i some most);
+      record {
+        holds = HasItems-opening KEY_LIMIT (tree_region layout) (opening_values layout)
+            (at_tree layout 0 (tree_begin layout) (omega arith) ∙ head-opening_structure layout.tree)
+            (ap (value_at (opening_values layout)) free ∙ tree_node layout 0 some (omega arith))
+            (λ i _ most. tree_node layout i some most);
+        capacity = refl;
+      };
   no_tree = λ _. refl;
 }

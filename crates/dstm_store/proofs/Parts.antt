@@ -17,10 +17,10 @@ use Rattle.dstm_mem.specs.Memory.{with_set}
 use Rattle.dstm_mem.specs.Operations.{IsReady}
 use Rattle.dstm_mem.specs.Operates.{Applies}
 use Rattle.dstm_mem.proofs.WithSet.{length-with_set, value_at-same_set}
-use Rattle.dstm_list.specs.List.{IsList, IsOfList, SameOutside}
-use Rattle.dstm_list.proofs.Lists.{list-kept}
-use Rattle.dstm_tree.specs.Objects.{root_of, free_of, object_of, IsTree}
-use Rattle.dstm_tree.proofs.Kept.{Holds-kept, IsFreeChain-kept}
+use Rattle.dstm_list.specs.List.{IsList, IsOfList}
+use Rattle.dstm_list.proofs.Layouts.{list-kept}
+use Rattle.dstm_tree.specs.Objects.{IsTree}
+use Rattle.dstm_tree.proofs.Kept.{HasItems-kept}
 use Rattle.dstm_tree.specs.Steps.{IsOfTree}
 use Rattle.dstm_store.specs.Whole.{StandsFor, IsLawful}
 use Rattle.dstm_store.specs.Concerns.{Concerns}
@@ -98,15 +98,7 @@ pub tree-kept : (layout : Layout) (map after : List Val) (store other : Store) �
     other.layout ≡ store.layout → other.items ≡ store.items →
     ((p : ℕ) → tree_begin layout ≤ p → value_at after p ≡ value_at map p) → IsTree layout after other
 tree-kept layout map after store other t layouts items same = record {
-  tree = t.tree;
-  free = t.free;
-  root = same (root_of layout) (omega arith) ∙ t.root;
-  unused = same (free_of layout) (omega arith) ∙ t.unused;
-  nodes = Holds-kept layout map after t.tree (λ i _ _ _. same (object_of layout i) (omega arith)) t.nodes;
-  chain = IsFreeChain-kept layout map after t.free (λ i _ _ _. same (object_of layout i) (omega arith)) t.chain;
-  once = t.once;
-  red_black = t.red_black;
-  items = items ∙ t.items;
+  holds = rw items (HasItems-kept (λ o inside. same o inside.0) t.holds);
   capacity = ap (λ l. l.tree) layouts ∙ t.capacity;
 }
 
@@ -146,7 +138,7 @@ module _ (layout : Layout) (op : Op) (map : List Val) (old new : ℕ → Option 
             (λ none. kept.items store ∙ whole.no_tree none),
       )
 
-  does-list : OfList op → SameOutside layout old new →
+  does-list : OfList op → ((p : ℕ) → ¬ IsOfList layout p → SameAt old new p) →
       Does (IsList layout) op (with_set map old) (with_set map new) reply →
       Does (StandsFor layout) op (with_set map old) (with_set map new) reply
   does-list kept same does store whole =

@@ -45,18 +45,18 @@ pub record Walk (begin n : ℕ) (values : List Val) (keys : List ℕ) (at i : �
 
 pub walk-start : (layout : Layout) (values : List Val) (store : Store) (at : ℕ) → IsValid layout → 0 < layout.list →
     (list : IsList layout values store) → at ≡ next_of (value_at values (list_begin layout)) →
-    Walk (list_begin layout) layout.list values [] at 0 list.cells
+    Walk (list_begin layout) layout.list values [] at 0 list.holds.cells
 walk-start layout values store at valid declared list is =
-    let numbers = numbers_of list.cells in
-    let in_range = each-left (IsNumber layout.list) numbers list.free (used_within list) in
-    let head = ap (λ v. v.low) (list.head declared) in
+    let numbers = numbers_of list.holds.cells in
+    let in_range = each-left (IsNumber layout.list) numbers list.holds.free (used_within list.holds) in
+    let head = ap (λ v. v.low) (list.holds.head declared) in
     record {
-      ahead = list.cells;
+      ahead = list.holds.cells;
       keys_are = refl;
       next = omega (arith, is, head, first_within layout.list numbers in_range, valid.list);
-      chain = list.chain;
+      chain = list.holds.chain;
       within = in_range;
-      left = omega (arith, used_most list);
+      left = omega (arith, used_most list.holds);
     }
 
 -- the next node is one of the layout's

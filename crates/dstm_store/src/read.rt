@@ -2,6 +2,7 @@ ghost use Rattle.std.specs.Prelude.{◌≡◌, ◌++◌, map, length, IfOk, OnOk
 ghost use Rattle.dstm_model.specs.Layout.{IsValid};
 ghost use Rattle.dstm_model.specs.Objects.{objects_of};
 ghost use Rattle.dstm_model.specs.Store.{Store, state_of, item_of};
+ghost use Rattle.dstm_region.specs.Region.{tree_region};
 ghost use Rattle.dstm_tree.specs.Tree.{items_of};
 ghost use Rattle.dstm_tree.specs.Node.{HasTree, Subtree};
 ghost use Rattle.dstm_store.specs.Whole.{StandsFor, IsLawful};
@@ -93,8 +94,8 @@ fn read_below(
 ) -> Result<(), AllocError>
     requires tree { HasTree layout.now }
     requires objects { length values.now ≡ objects_of layout.now }
-    requires stands { Subtree layout.now values.now at depth }
-    ensures { OnOk result ((below : Subtree layout.now values.now at depth) →
+    requires stands { Subtree (tree_region layout.now) values.now at depth }
+    ensures { OnOk result ((below : Subtree (tree_region layout.now) values.now at depth) →
         items.new.items ≡ items.old.items ++ map item_of (items_of below.tree)) }
 {
     if at == 0 {

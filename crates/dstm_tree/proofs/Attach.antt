@@ -1,6 +1,6 @@
 -- What was placed below a node is placed at the node.
 use Rattle.dstm_tree.proofs.Base.{◌≡◌, ℕ, ◌+◌, ◌<◌, ◌≤◌, true, false, List, arith, refl, sym, ◌∙◌, ap, subst, Val}
-use Rattle.dstm_tree.proofs.Base.{Layout, Node, Side, Left, Right, Placed, Full, Found, Added, Root, Pair, Request}
+use Rattle.dstm_tree.proofs.Base.{Region, Node, Side, Left, Right, Placed, Full, Found, Added, Root, Pair, Request}
 use Rattle.dstm_tree.proofs.Base.{other, on, IsToward, Tree, number_of, is_red, items_of, count_of, false_from_ne_true}
 use Rattle.dstm_tree.proofs.Base.{black_height, object_of, FitsNode, Stands, child, with_child, with_red, sided, val_of}
 use Rattle.dstm_tree.proofs.Base.{Sets, free_count, Keeps, Grows, IsFull, Replaces, AddsBelow, AddsRoot, AddsPair}
@@ -24,10 +24,10 @@ Grows-shape q t free u v rest h items counts height = record {
   height = height ∙ h.height;
 }
 
-root-other : {layout : Layout} {side : Side} {x : Node} {q : Request} {t : Tree} {free : List ℕ}
-    {before after : List Val} → AddsRoot layout side x q t free before after →
-    AddsRoot layout (other side) x q t free before after
-root-other {layout} {side} {x} {q} {t} {free} {after} h = record {
+root-other : {region : Region} {side : Side} {x : Node} {q : Request} {t : Tree} {free : List ℕ}
+    {before after : List Val} → AddsRoot region side x q t free before after →
+    AddsRoot region (other side) x q t free before after
+root-other {region} {side} {x} {q} {t} {free} {after} h = record {
   near = h.far;
   far = h.near;
   rest = h.rest;
@@ -43,19 +43,19 @@ root-other {layout} {side} {x} {q} {t} {free} {after} h = record {
 }
 
 -- either side of the root may be called near
-pub root-on : {layout : Layout} {from : Side} (to : Side) {x : Node} {q : Request} {t : Tree} {free : List ℕ}
-    {before after : List Val} → AddsRoot layout from x q t free before after →
-    AddsRoot layout to x q t free before after
+pub root-on : {region : Region} {from : Side} (to : Side) {x : Node} {q : Request} {t : Tree} {free : List ℕ}
+    {before after : List Val} → AddsRoot region from x q t free before after →
+    AddsRoot region to x q t free before after
 root-on {from = Left} Left h = h
 root-on {from = Left} Right h = root-other h
 root-on {from = Right} Left h = root-other h
 root-on {from = Right} Right h = h
 
 -- the upper of the two nodes is seen as the lower one from the other side
-pair-other : {layout : Layout} {side : Side} {x y : Node} {q : Request} {t : Tree} {free : List ℕ}
-    {before after : List Val} → AddsPair layout side x y q t free before after →
-    AddsPair layout (other side) y x q t free before after
-pair-other {layout} {side} {x} {y} {q} {t} {free} {after} h =
+pair-other : {region : Region} {side : Side} {x y : Node} {q : Request} {t : Tree} {free : List ℕ}
+    {before after : List Val} → AddsPair region side x y q t free before after →
+    AddsPair region (other side) y x q t free before after
+pair-other {region} {side} {x} {y} {q} {t} {free} {after} h =
     let lower = sided side x h.first h.middle in
     let old = sided side y lower h.last in
     let upper = sided (other side) y h.last h.middle in
@@ -92,26 +92,26 @@ pair-other {layout} {side} {x} {y} {q} {t} {free} {after} h =
       keeps = h.keeps;
     }
 
-pub pair-seen : {layout : Layout} (side : Side) {x y : Node} {q : Request} {t : Tree} {free : List ℕ}
-    {before after : List Val} → AddsPair layout Left x y q t free before after →
-    AddsPair layout side (on side x y) (on side y x) q t free before after
+pub pair-seen : {region : Region} (side : Side) {x y : Node} {q : Request} {t : Tree} {free : List ℕ}
+    {before after : List Val} → AddsPair region Left x y q t free before after →
+    AddsPair region side (on side x y) (on side y x) q t free before after
 pair-seen Left h = h
 pair-seen Right h = pair-other h
 
-pub pair-told : {layout : Layout} {side : Side} {x y : Node} {q : Request} {t : Tree} {free : List ℕ}
-    {before after : List Val} → AddsPair layout side x y q t free before after →
-    AddsPair layout Left (on side x y) (on side y x) q t free before after
+pub pair-told : {region : Region} {side : Side} {x y : Node} {q : Request} {t : Tree} {free : List ℕ}
+    {before after : List Val} → AddsPair region side x y q t free before after →
+    AddsPair region Left (on side x y) (on side y x) q t free before after
 pair-told {side = Left} h = h
 pair-told {side = Right} h = pair-other h
 
 -- the tree and the chain keep what they kept before two of their nodes were written
-Keeps-written : (layout : Layout) (x y : ℕ) (vx vy : Val) (t : Tree) (free rest : List ℕ)
-    (start before mid after : List Val) → 0 < x → 0 < y → Sets (object_of layout x) vx before mid →
-    Sets (object_of layout y) vy mid after → ((i : ℕ) → one_at x i + one_at y i ≤ count_of i t + free_count i free) →
-    ((i : ℕ) → 0 < i → i ≤ layout.tree → one_at x i + one_at y i + free_count i rest ≤ 1) →
-    Keeps layout t free rest start before → Keeps layout t free rest start after
-Keeps-written layout x y vx vy t free rest start before mid after some_x some_y set_x set_y within once h =
-    let changes = Changes-more (wrote layout x vx before mid some_x set_x) (wrote layout y vy mid after some_y set_y) in
+Keeps-written : (region : Region) (x y : ℕ) (vx vy : Val) (t : Tree) (free rest : List ℕ)
+    (start before mid after : List Val) → 0 < x → 0 < y → Sets (object_of region x) vx before mid →
+    Sets (object_of region y) vy mid after → ((i : ℕ) → one_at x i + one_at y i ≤ count_of i t + free_count i free) →
+    ((i : ℕ) → 0 < i → i ≤ region.nodes → one_at x i + one_at y i + free_count i rest ≤ 1) →
+    Keeps region t free rest start before → Keeps region t free rest start after
+Keeps-written region x y vx vy t free rest start before mid after some_x some_y set_x set_y within once h =
+    let changes = Changes-more (wrote region x vx before mid some_x set_x) (wrote region y vy mid after some_y set_y) in
     record {
       root = changes.root ∙ h.root;
       nodes = λ i least most none. changes.nodes i least most (omega (arith, within i)) ∙ h.nodes i least most none;
@@ -120,8 +120,8 @@ Keeps-written layout x y vx vy t free rest start before mid after some_x some_y 
 
 -- ---- a key is placed on a side of a node
 
-module _ {layout : Layout} {side : Side} {p : Node} {near far : Tree} {free : List ℕ} {start : List Val} (q : Request)
-    (h : Parent layout side p near far free start) (way : IsToward side q.key p.key) where
+module _ {region : Region} {side : Side} {p : Node} {near far : Tree} {free : List ℕ} {start : List Val} (q : Request)
+    (h : Parent region side p near far free start) (way : IsToward side q.key p.key) where
   -- ---- a tree grows as one of its subtrees does, and the other one stays
 
   Grows-near : (u : Tree) (rest : List ℕ) → Grows q near free u rest →
@@ -134,39 +134,39 @@ module _ {layout : Layout} {side : Side} {p : Node} {near far : Tree} {free : Li
         sym (sided-height side p near far h.fork.heights);
   }
 
-  once-in : (i : ℕ) → 0 < i → i ≤ layout.tree →
+  once-in : (i : ℕ) → 0 < i → i ≤ region.nodes →
       one_at p.number i + count_of i near + count_of i far + free_count i free ≤ 1
   once-in i least most =
       omega (arith, h.once i least most, on-counts i side)
 
-  Keeps-whole : (rest : List ℕ) (after : List Val) → Keeps layout near free rest start after →
-      Keeps layout (sided side p near far) free rest start after
+  Keeps-whole : (rest : List ℕ) (after : List Val) → Keeps region near free rest start after →
+      Keeps region (sided side p near far) free rest start after
   Keeps-whole rest after h = record {
     root = h.root;
     nodes = λ i least most none. h.nodes i least most (omega (arith, on-counts i side));
     chain = h.chain;
   }
 
-  far-kept : (rest : List ℕ) (after : List Val) → Keeps layout near free rest start after →
-      Stands layout after (child (other side) p) far
+  far-kept : (rest : List ℕ) (after : List Val) → Keeps region near free rest start after →
+      Stands region after (child (other side) p) far
   far-kept rest after keeps = record {
     root = h.fork.far_stands.root;
-    nodes = Holds-kept layout start after far
+    nodes = Holds-kept region start after far
         (λ i least most some. keeps.nodes i least most (omega (arith, once-in i least most))) h.fork.far_stands.nodes;
     balanced = h.fork.far_stands.balanced;
   }
 
   -- the node with another near subtree, where only that was changed
-  hang : (u : Tree) (rest : List ℕ) (after : List Val) → Keeps layout near free rest start after →
-      Stands layout after (number_of near) u → black_height u ≡ black_height near →
-      (is_red near ≡ false → is_red u ≡ false) → Stands layout after p.number (sided side p u far)
+  hang : (u : Tree) (rest : List ℕ) (after : List Val) → Keeps region near free rest start after →
+      Stands region after (number_of near) u → black_height u ≡ black_height near →
+      (is_red near ≡ false → is_red u ≡ false) → Stands region after p.number (sided side p u far)
   hang u rest after keeps stands height colour =
-      stand layout after side p u far (record {
+      stand region after side p u far (record {
         number = h.fork.number;
         within = h.fork.within;
         value = keeps.nodes p.number h.fork.number h.fork.within
             (omega (arith, once-in p.number h.fork.number h.fork.within, one_at-self p.number)) ∙ h.fork.value;
-        near_stands = subst (λ n. Stands layout after n u) h.fork.near_stands.root stands;
+        near_stands = subst (λ n. Stands region after n u) h.fork.near_stands.root stands;
         far_stands = far-kept rest after keeps;
         heights = height ∙ h.fork.heights;
         colours = λ red. (colour (h.fork.colours red).0, (h.fork.colours red).1);
@@ -180,8 +180,8 @@ module _ {layout : Layout} {side : Side} {p : Node} {near far : Tree} {free : Li
     same = full.same;
   }
 
-  pub attach-found : (after : List Val) → Replaces layout q near free start after →
-      Replaces layout q (sided side p near far) free start after
+  pub attach-found : (after : List Val) → Replaces region q near free start after →
+      Replaces region q (sided side p near far) free start after
   attach-found after found = record {
     tree = sided side p found.tree far;
     present = rw (value_of-toward side q.key h.low h.high p near far h.order way) found.present;
@@ -195,8 +195,8 @@ module _ {layout : Layout} {side : Side} {p : Node} {near far : Tree} {free : Li
     keeps = Keeps-whole free after found.keeps;
   }
 
-  pub attach-added : (after : List Val) → AddsBelow layout q near free start after →
-      AddsBelow layout q (sided side p near far) free start after
+  pub attach-added : (after : List Val) → AddsBelow region q near free start after →
+      AddsBelow region q (sided side p near far) free start after
   attach-added after added = record {
     tree = sided side p added.tree far;
     rest = added.rest;
@@ -208,8 +208,8 @@ module _ {layout : Layout} {side : Side} {p : Node} {near far : Tree} {free : Li
   }
 
   -- a red node under a red one
-  pub attach-pair : (x : Node) (after : List Val) → p.red ≡ true → AddsRoot layout side x q near free start after →
-      AddsPair layout side x (with_child side (child (other side) x) p) q (sided side p near far) free start after
+  pub attach-pair : (x : Node) (after : List Val) → p.red ≡ true → AddsRoot region side x q near free start after →
+      AddsPair region side x (with_child side (child (other side) x) p) q (sided side p near far) free start after
   attach-pair x after red added =
       let under = sided side x added.near added.far in
       let high = sided-height side x added.near added.far added.heights in
@@ -234,16 +234,16 @@ module _ {layout : Layout} {side : Side} {p : Node} {near far : Tree} {free : Li
       }
 
   -- a red node under a black one
-  pub attach-hung : (x : Node) (before mid after : List Val) → x.number ≤ layout.tree → p.red ≡ false →
-      AddsRoot layout side x q near free start before → Sets (object_of layout x.number) (val_of x) before mid →
-      Sets (object_of layout p.number) (val_of (with_child side x.number p)) mid after →
-      AddsBelow layout q (sided side p near far) free start after
+  pub attach-hung : (x : Node) (before mid after : List Val) → x.number ≤ region.nodes → p.red ≡ false →
+      AddsRoot region side x q near free start before → Sets (object_of region x.number) (val_of x) before mid →
+      Sets (object_of region p.number) (val_of (with_child side x.number p)) mid after →
+      AddsBelow region q (sided side p near far) free start after
   attach-hung x before mid after in_x black added set_x set_p =
       let under = sided side x added.near added.far in
       let p' = with_child side x.number p in
       let grows = Grows-near under added.rest added.grows in
       let inner = sided-counts side x added.near added.far in
-      let once : (i : ℕ) → 0 < i → i ≤ layout.tree → one_at p.number i + (one_at x.number i + count_of i added.near
+      let once : (i : ℕ) → 0 < i → i ≤ region.nodes → one_at p.number i + (one_at x.number i + count_of i added.near
       + count_of i added.far) + count_of i far + free_count i added.rest ≤ 1 =
       λ i least most. omega (arith, added.grows.counts i, inner i, once-in i least most) in
       let hung = written side x added.number in_x set_x added.near_stands added.far_stands
@@ -256,11 +256,11 @@ module _ {layout : Layout} {side : Side} {p : Node} {near far : Tree} {free : Li
         grows = grows;
         colour = λ e. e;
         stands = written side p' h.fork.number h.fork.within set_p
-            (subst (λ n. Stands layout mid n under) (sym (child-set side x.number p)) hung)
-            (subst (λ n. Stands layout mid n far) (sym (child-kept side x.number p)) beside)
+            (subst (λ n. Stands region mid n under) (sym (child-set side x.number p)) hung)
+            (subst (λ n. Stands region mid n far) (sym (child-kept side x.number p)) beside)
             (λ i least most. omega (arith, once i least most, inner i)) (added.grows.height ∙ h.fork.heights)
             (λ red. absurd (cc (red, black)));
-        keeps = Keeps-written layout x.number p.number (val_of x) (val_of p') (sided side p near far) free added.rest
+        keeps = Keeps-written region x.number p.number (val_of x) (val_of p') (sided side p near far) free added.rest
             start before mid after added.number h.fork.number set_x set_p
             (λ i. omega (arith, added.grows.counts i, inner i, on-counts i side))
             (λ i least most. omega (arith, once i least most)) (Keeps-whole added.rest before added.keeps);
@@ -275,10 +275,10 @@ module _ {layout : Layout} {side : Side} {p : Node} {near far : Tree} {free : Li
   --    outer    c           a   b    c   far
   --     / \
   --    a   b
-  pub attach-rotated : (x y : Node) (before mid after : List Val) → x.number ≤ layout.tree →
-      AddsPair layout side x y q near free start before →
-      Sets (object_of layout x.number) (val_of (with_red false x)) before mid →
-      Sets (object_of layout p.number) (val_of (with_child side (child (other side) y) p)) mid after → AddsRoot layout
+  pub attach-rotated : (x y : Node) (before mid after : List Val) → x.number ≤ region.nodes →
+      AddsPair region side x y q near free start before →
+      Sets (object_of region x.number) (val_of (with_red false x)) before mid →
+      Sets (object_of region p.number) (val_of (with_child side (child (other side) y) p)) mid after → AddsRoot region
       side (with_child (other side) p.number (with_child side x.number y)) q (sided side p near far) free start after
   attach-rotated x y before mid after in_x added set_x set_p =
       let a = added.first in
@@ -301,7 +301,7 @@ module _ {layout : Layout} {side : Side} {p : Node} {near far : Tree} {free : Li
       omega (arith, ap blackness black) in
       let count_x = sided-counts side x a b in
       let count_y = sided-counts side y lower c in
-      let once : (i : ℕ) → 0 < i → i ≤ layout.tree → one_at y.number i
+      let once : (i : ℕ) → 0 < i → i ≤ region.nodes → one_at y.number i
       + (one_at x.number i + count_of i a + count_of i b) + (one_at p.number i + count_of i c + count_of i far)
       + free_count i added.rest ≤ 1 =
       λ i least most. omega (arith, added.grows.counts i, count_x i, count_y i, once-in i least most) in
@@ -311,9 +311,9 @@ module _ {layout : Layout} {side : Side} {p : Node} {near far : Tree} {free : Li
       (λ i least most. omega (arith, once i least most, on-counts i side))
       (written side x' added.outer_number in_x set_x added.first_stands added.middle_stands
       (λ i least most. omega (arith, once i least most)) added.first_height (λ e. absurd (cc e))) in
-      let c_stands = subst (λ n. Stands layout mid n c) (sym (child-set side (child (other side) y) p))
+      let c_stands = subst (λ n. Stands region mid n c) (sym (child-set side (child (other side) y) p))
       (still x.number added.outer_number set_x (λ i least most. omega (arith, once i least most)) added.last_stands) in
-      let far_stands = subst (λ n. Stands layout mid n far) (sym (child-kept side (child (other side) y) p))
+      let far_stands = subst (λ n. Stands region mid n far) (sym (child-kept side (child (other side) y) p))
       (still x.number added.outer_number set_x (λ i least most. omega (arith, once i least most))
       (far-kept added.rest before added.keeps)) in
       let lower_p = written side p' h.fork.number h.fork.within set_p c_stands far_stands
@@ -334,16 +334,16 @@ module _ {layout : Layout} {side : Side} {p : Node} {near far : Tree} {free : Li
         heights = same;
         near_black = refl;
         far_black = black;
-        keeps = Keeps-written layout x.number p.number (val_of x') (val_of p') (sided side p near far) free added.rest
+        keeps = Keeps-written region x.number p.number (val_of x') (val_of p') (sided side p near far) free added.rest
             start before mid after added.outer_number h.fork.number set_x set_p
             (λ i. omega (arith, added.grows.counts i, count_x i, count_y i, on-counts i side))
             (λ i least most. omega (arith, once i least most)) (Keeps-whole added.rest before added.keeps);
       }
 
-pub on-fits : (layout : Layout) (side : Side) (x y : Node) → FitsNode layout x → FitsNode layout y →
-    FitsNode layout (on side x y)
-on-fits layout Left x y fits_x fits_y = fits_x
-on-fits layout Right x y fits_x fits_y = fits_y
+pub on-fits : (region : Region) (side : Side) (x y : Node) → FitsNode region x → FitsNode region y →
+    FitsNode region (on side x y)
+on-fits region Left x y fits_x fits_y = fits_x
+on-fits region Right x y fits_x fits_y = fits_y
 
 -- what leaves the whole as it was is settled
 pub settled : (q : Request) (placed : Placed) → LeavesAll q placed → IsSettled placed

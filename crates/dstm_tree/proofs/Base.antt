@@ -13,9 +13,7 @@ pub use Rattle.std.specs.declared.cmp.Ordering.{Ordering}
 pub use Rattle.std.specs.declared.cmp.Ordering.TheVariants.{Equal, Greater, Less}
 pub use Rattle.dstm_model.specs.Map.{value_at}
 pub use Rattle.dstm_model.specs.Objects.{plain}
-pub use Rattle.dstm_model.specs.Store.{Store, value_of, value_reply, with_item, without_item, yes_or_no}
-pub use Rattle.dstm_model.specs.declared.layout.Layout.{Layout}
-pub use Rattle.dstm_model.specs.declared.layout.TheConstants.{KEY_LIMIT}
+pub use Rattle.dstm_model.specs.Store.{value_of, with_item, without_item, yes_or_no}
 pub use Rattle.dstm_model.specs.declared.value.Val.{Val}
 pub use Rattle.dstm_mem.proofs.Operations.{leads-answers, leads-none, leads-then, only_reads-none, only_reads-then}
 pub use Rattle.dstm_mem.proofs.Operations.{opens_to_set-none, opens_to_set-of_reads, opens_to_set-then}
@@ -23,12 +21,14 @@ pub use Rattle.dstm_mem.proofs.WithSet.{value_at-opened, value_at-same_set, valu
 pub use Rattle.dstm_mem.specs.Memory.{with_set}
 pub use Rattle.dstm_mem.specs.Operations.{OnlyReads}
 pub use Rattle.dstm_mem.specs.declared.memory.Mem.{Ghosts}
-pub use Rattle.dstm_tree.specs.Node.{FitsNode, Fork, HasTree, IsRead, Stands, Subtree, child, sided, tree_of, val_of}
+pub use Rattle.dstm_region.specs.declared.region.Region.{Region}
+pub use Rattle.dstm_tree.specs.Items.{Placing, Puts, TakesOut, placing}
+pub use Rattle.dstm_tree.specs.Node.{FitsNode, FitsTree, Fork, IsRead, Stands, Subtree, child, sided, tree_of, val_of}
 pub use Rattle.dstm_tree.specs.Node.{with_child, with_red}
-pub use Rattle.dstm_tree.specs.Objects.{Holds, IsFreeChain, IsTree, first_of, free_of, node_value, object_of, root_of}
+pub use Rattle.dstm_tree.specs.Objects.{HasItems, Holds, IsFreeChain, first_of, free_of, node_value, object_of, root_of}
 pub use Rattle.dstm_tree.specs.Place.{AddsBelow, AddsPair, AddsRoot, Answers, Attaches, CanPlace, FitsPlaced, Grows}
 pub use Rattle.dstm_tree.specs.Place.{IsFree, IsFull, IsPlaced, IsSettled, IsTaken, Keeps, LeavesAll, Parent, Places}
-pub use Rattle.dstm_tree.specs.Place.{PlacesLeaf, Replaces, TakesFirstFree, free_count, placing}
+pub use Rattle.dstm_tree.specs.Place.{PlacesLeaf, Replaces, TakesFirstFree, free_count}
 pub use Rattle.dstm_tree.specs.Remove.{Arranges, Became, Changes, Closes, Fall, FindsRed, Gap, GivesBack, HasFall}
 pub use Rattle.dstm_tree.specs.Remove.{HasGap, Hoists, IsCut, IsRedFork, Lifts, Loses, NamesRoot, Recolours, RemovesIf}
 pub use Rattle.dstm_tree.specs.Remove.{RemovesRoot, TakesKey, TakesKeyIf, TakesLeast, blackness, fall_of, one_at}

@@ -1,15 +1,15 @@
 -- A node over its two subtrees, seen from either side, and where it is read and written.
 use Rattle.dstm_tree.proofs.Base.{◌≡◌, ℕ, ◌+◌, ◌<◌, ◌≤◌, true, false, List, refl, sym, ◌∙◌, ap, subst, arith, Val}
-use Rattle.dstm_tree.proofs.Base.{Layout, value_at, Node, Side, Left, Right, other, Tree, leaf, node, number_of, is_red}
-use Rattle.dstm_tree.proofs.Base.{IsBalanced, object_of, Holds, HasTree, IsRead, Stands, Fork, sided, tree_of, val_of}
+use Rattle.dstm_tree.proofs.Base.{Region, value_at, Node, Side, Left, Right, other, Tree, leaf, node, number_of, is_red}
+use Rattle.dstm_tree.proofs.Base.{IsBalanced, object_of, Holds, FitsTree, IsRead, Stands, Fork, sided, tree_of, val_of}
 use Rattle.dstm_tree.proofs.Base.{false_from_ne_true, IsRedFork, Sets, child, count_of, black_height, one_at}
 use Rattle.dstm_tree.proofs.Nodes.{root_is, number_le}
 use Rattle.dstm_tree.proofs.Kept.{node_value-same, Stands-kept, wrote}
 use Rattle.dstm_tree.proofs.Sides.{other-other}
 
-pub Fork-other : (layout : Layout) (map : List Val) (side : Side) (x : Node) (near far : Tree) →
-    Fork layout map side x near far → Fork layout map (other side) x far near
-Fork-other layout map side x near far h = record {
+pub Fork-other : (region : Region) (map : List Val) (side : Side) (x : Node) (near far : Tree) →
+    Fork region map side x near far → Fork region map (other side) x far near
+Fork-other region map side x near far h = record {
   number = h.number;
   within = h.within;
   value = h.value;
@@ -19,9 +19,9 @@ Fork-other layout map side x near far h = record {
   colours = λ red. ((h.colours red).1, (h.colours red).0);
 }
 
-stand_left : (layout : Layout) (map : List Val) (x : Node) (near far : Tree) → Fork layout map Left x near far →
-    Stands layout map x.number (tree_of x near far)
-stand_left layout map x near far h = record {
+stand_left : (region : Region) (map : List Val) (x : Node) (near far : Tree) → Fork region map Left x near far →
+    Stands region map x.number (tree_of x near far)
+stand_left region map x near far h = record {
   root = refl;
   nodes = (
     h.number,
@@ -35,27 +35,27 @@ stand_left layout map x near far h = record {
 }
 
 -- the tree of the node stands
-pub stand : (layout : Layout) (map : List Val) (side : Side) (x : Node) (near far : Tree) →
-    Fork layout map side x near far → Stands layout map x.number (sided side x near far)
-stand layout map Left x near far h = stand_left layout map x near far h
-stand layout map Right x near far h = stand_left layout map x far near (Fork-other layout map Right x near far h)
+pub stand : (region : Region) (map : List Val) (side : Side) (x : Node) (near far : Tree) →
+    Fork region map side x near far → Stands region map x.number (sided side x near far)
+stand region map Left x near far h = stand_left region map x near far h
+stand region map Right x near far h = stand_left region map x far near (Fork-other region map Right x near far h)
 
 -- a subtree without the node that was written stands still
-pub still : {layout : Layout} (n : ℕ) {m : ℕ} {v : Val} {t : Tree} {before after : List Val} → 0 < n →
-    Sets (object_of layout n) v before after → ((i : ℕ) → 0 < i → i ≤ layout.tree → one_at n i + count_of i t ≤ 1) →
-    Stands layout before m t → Stands layout after m t
-still {layout} n {v} {before} {after} some set apart h =
-    Stands-kept (wrote layout n v before after some set) (λ i least most here. omega (arith, apart i least most)) h
+pub still : {region : Region} (n : ℕ) {m : ℕ} {v : Val} {t : Tree} {before after : List Val} → 0 < n →
+    Sets (object_of region n) v before after → ((i : ℕ) → 0 < i → i ≤ region.nodes → one_at n i + count_of i t ≤ 1) →
+    Stands region before m t → Stands region after m t
+still {region} n {v} {before} {after} some set apart h =
+    Stands-kept (wrote region n v before after some set) (λ i least most here. omega (arith, apart i least most)) h
 
 -- a node that was written stands over the subtrees that stood before
-pub written : {layout : Layout} (side : Side) (x : Node) {a b : Tree} {before after : List Val} → 0 < x.number →
-    x.number ≤ layout.tree → Sets (object_of layout x.number) (val_of x) before after →
-    Stands layout before (child side x) a → Stands layout before (child (other side) x) b →
-    ((i : ℕ) → 0 < i → i ≤ layout.tree → one_at x.number i + count_of i a + count_of i b ≤ 1) →
+pub written : {region : Region} (side : Side) (x : Node) {a b : Tree} {before after : List Val} → 0 < x.number →
+    x.number ≤ region.nodes → Sets (object_of region x.number) (val_of x) before after →
+    Stands region before (child side x) a → Stands region before (child (other side) x) b →
+    ((i : ℕ) → 0 < i → i ≤ region.nodes → one_at x.number i + count_of i a + count_of i b ≤ 1) →
     black_height a ≡ black_height b → (x.red ≡ true → (is_red a ≡ false) × (is_red b ≡ false)) →
-    Stands layout after x.number (sided side x a b)
-written {layout} side x {a} {b} {after} some within set near far once heights colours =
-    stand layout after side x a b (record {
+    Stands region after x.number (sided side x a b)
+written {region} side x {a} {b} {after} some within set near far once heights colours =
+    stand region after side x a b (record {
       number = some;
       within = within;
       value = set.is;
@@ -66,26 +66,26 @@ written {layout} side x {a} {b} {after} some within set near far once heights co
     })
 
 -- a tree whose root was read
-pub record Forked (layout : Layout) (map : List Val) (side : Side) (t : Tree) (x : Node) : Type 0 where
+pub record Forked (region : Region) (map : List Val) (side : Side) (t : Tree) (x : Node) : Type 0 where
   pub near : Tree
   pub far : Tree
   pub tree : t ≡ sided side x near far
-  pub fork : Fork layout map side x near far
+  pub fork : Fork region map side x near far
 
-unfoldable pub Forked-seen : (layout : Layout) (map : List Val) (side : Side) (t : Tree) (x : Node) →
-    Forked layout map Left t x → Forked layout map side t x
-Forked-seen layout map Left t x h = h
-Forked-seen layout map Right t x h =
-    record { near = h.far; far = h.near; tree = h.tree; fork = Fork-other layout map Left x h.near h.far h.fork }
+unfoldable pub Forked-seen : (region : Region) (map : List Val) (side : Side) (t : Tree) (x : Node) →
+    Forked region map Left t x → Forked region map side t x
+Forked-seen region map Left t x h = h
+Forked-seen region map Right t x h =
+    record { near = h.far; far = h.near; tree = h.tree; fork = Fork-other region map Left x h.near h.far h.fork }
 
-unfoldable pub forked : (layout : Layout) (map : List Val) (side : Side) (t : Tree) (x : Node) → layout.tree < 65536 →
-    (x.number ≡ 0 → ⊥) → x.left < 65536 → x.right < 65536 → value_at map (object_of layout x.number) ≡ val_of x →
-    Stands layout map x.number t → Forked layout map side t x
-forked layout map side t x small some in_left in_right value h =
-    let (l, (r, (left_is, right_is, is))) = root_is layout map t x small h.root some in_left in_right h.nodes value in
-    let nodes = subst (Holds layout map) is h.nodes in
+unfoldable pub forked : (region : Region) (map : List Val) (side : Side) (t : Tree) (x : Node) → region.nodes < 65536 →
+    (x.number ≡ 0 → ⊥) → x.left < 65536 → x.right < 65536 → value_at map (object_of region x.number) ≡ val_of x →
+    Stands region map x.number t → Forked region map side t x
+forked region map side t x small some in_left in_right value h =
+    let (l, (r, (left_is, right_is, is))) = root_is region map t x small h.root some in_left in_right h.nodes value in
+    let nodes = subst (Holds region map) is h.nodes in
     let balanced = subst IsBalanced is h.balanced in
-    Forked-seen layout map side t x (record {
+    Forked-seen region map side t x (record {
       near = l;
       far = r;
       tree = is;
@@ -100,13 +100,13 @@ forked layout map side t x small some in_left in_right value h =
       };
     })
 
-pub forked_read : {layout : Layout} (side : Side) {at : ℕ} {t : Tree} {x : Node} {before after : List Val} →
-    HasTree layout → IsRead layout at x before after → (at ≡ 0 → ⊥) → Stands layout before at t →
-    Forked layout before side t x
-forked_read {layout} side {t} {x} {before} has read some h =
-    forked layout before side t x (omega arith) (λ e. some (sym read.number ∙ e)) read.left read.right
-    (ap (λ i. value_at before (object_of layout i)) read.number ∙ read.value)
-    (subst (λ n. Stands layout before n t) (sym read.number) h)
+pub forked_read : {region : Region} (side : Side) {at : ℕ} {t : Tree} {x : Node} {before after : List Val} →
+    FitsTree region → IsRead region at x before after → (at ≡ 0 → ⊥) → Stands region before at t →
+    Forked region before side t x
+forked_read {region} side {t} {x} {before} has read some h =
+    forked region before side t x (omega arith) (λ e. some (sym read.number ∙ e)) read.left read.right
+    (ap (λ i. value_at before (object_of region i)) read.number ∙ read.value)
+    (subst (λ n. Stands region before n t) (sym read.number) h)
 
 -- ---- a child is looked at
 
@@ -114,14 +114,14 @@ forked_read {layout} side {t} {x} {before} has read some h =
 pub not_red : (t old : Tree) → (is_red t ≡ true → is_red old ≡ true) → is_red old ≡ false → is_red t ≡ false
 not_red t old only black = false_from_ne_true (is_red t) (λ e. cc (only e, black))
 
-pub missing_child : {layout : Layout} {map : List Val} {t : Tree} {number : ℕ} → number ≡ 0 →
-    Stands layout map number t → t ≡ leaf
+pub missing_child : {region : Region} {map : List Val} {t : Tree} {number : ℕ} → number ≡ 0 →
+    Stands region map number t → t ≡ leaf
 missing_child {t = leaf} none h = refl
 missing_child {t = node n red l k v r} none h = absurd (omega arith)
 
-pub red_child : {layout : Layout} {map : List Val} {side : Side} {t : Tree} {x : Node} → Forked layout map side t x →
-    x.red ≡ true → IsRedFork layout map side t x
+pub red_child : {region : Region} {map : List Val} {side : Side} {t : Tree} {x : Node} → Forked region map side t x →
+    x.red ≡ true → IsRedFork region map side t x
 red_child h red = record { near = h.near; far = h.far; tree = h.tree; red = red; fork = h.fork }
 
-pub stands-within : {layout : Layout} {map : List Val} {n : ℕ} {t : Tree} → Stands layout map n t → n ≤ layout.tree
-stands-within {layout} {map} {t} h = omega (arith, number_le layout map t h.nodes)
+pub stands-within : {region : Region} {map : List Val} {n : ℕ} {t : Tree} → Stands region map n t → n ≤ region.nodes
+stands-within {region} {map} {t} h = omega (arith, number_le region map t h.nodes)

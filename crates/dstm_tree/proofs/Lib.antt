@@ -17,3 +17,4 @@ pub mod Placing
 pub mod Whole
 pub mod Taking
 pub mod Walk
+pub mod Layouts

@@ -1,6 +1,6 @@
 -- A subtree that has fallen beside a black sibling is lifted.
 use Rattle.dstm_tree.proofs.Base.{◌≡◌, ℕ, ◌+◌, ◌<◌, ◌≤◌, Bool, true, false, List, arith, refl, sym, ◌∙◌, ap, subst, not}
-use Rattle.dstm_tree.proofs.Base.{Some, None, not-true, Val, Layout, Node, Side, Cut, other, Tree, items_of, count_of}
+use Rattle.dstm_tree.proofs.Base.{Some, None, not-true, Val, Region, Node, Side, Cut, other, Tree, items_of, count_of}
 use Rattle.dstm_tree.proofs.Base.{black_height, Stands, child, with_child, with_red, sided, val_of, IsCut, fall_of}
 use Rattle.dstm_tree.proofs.Base.{blackness, Arranges, Recolours, Lifts, FindsRed, IsRedFork, one_at}
 use Rattle.dstm_tree.proofs.Kept.{one_at-self, Changes-more, Changes-within, wrote, Sets-apart}
@@ -18,20 +18,20 @@ falls_unless_red false = refl
 --           x     y
 --          / \   / \
 --         a   b c   d
-rearranged : (layout : Layout) (side : Side) (x y z : Node) (a b c d t : Tree) (height : ℕ) (red : Bool) (cut : Cut)
-    (before after : List Val) → Arranges layout x y z cut before after → 0 < x.number → x.number ≤ layout.tree →
-    0 < y.number → y.number ≤ layout.tree → 0 < z.number → z.number ≤ layout.tree → x.red ≡ false → y.red ≡ false →
-    z.red ≡ red → Stands layout before (child side x) a → Stands layout before (child (other side) x) b →
-    Stands layout before (child side y) c → Stands layout before (child (other side) y) d → x.number ≡ child side z →
+rearranged : (region : Region) (side : Side) (x y z : Node) (a b c d t : Tree) (height : ℕ) (red : Bool) (cut : Cut)
+    (before after : List Val) → Arranges region x y z cut before after → 0 < x.number → x.number ≤ region.nodes →
+    0 < y.number → y.number ≤ region.nodes → 0 < z.number → z.number ≤ region.nodes → x.red ≡ false → y.red ≡ false →
+    z.red ≡ red → Stands region before (child side x) a → Stands region before (child (other side) x) b →
+    Stands region before (child side y) c → Stands region before (child (other side) y) d → x.number ≡ child side z →
     y.number ≡ child (other side) z → black_height a ≡ black_height b → black_height a ≡ black_height c →
     black_height c ≡ black_height d → black_height a + 1 + blackness red ≡ height →
     items_of (sided side z (sided side x a b) (sided side y c d)) ≡ items_of t →
     ((i : ℕ) → one_at z.number i + (one_at x.number i + count_of i a + count_of i b)
     + (one_at y.number i + count_of i c + count_of i d) ≡ count_of i t) →
-    ((i : ℕ) → 0 < i → i ≤ layout.tree → count_of i t ≤ 1) → IsCut layout t height red cut before after
-rearranged layout side x y z a b c d t height red cut before after set some_x in_x some_y in_y some_z in_z black_x
+    ((i : ℕ) → 0 < i → i ≤ region.nodes → count_of i t ≤ 1) → IsCut region t height red cut before after
+rearranged region side x y z a b c d t height red cut before after set some_x in_x some_y in_y some_z in_z black_x
     black_y red_z sa sb sc sd x_is y_is ab ac cd height_is items counts once =
-    let at : (i : ℕ) → 0 < i → i ≤ layout.tree → one_at z.number i + (one_at x.number i + count_of i a + count_of i b)
+    let at : (i : ℕ) → 0 < i → i ≤ region.nodes → one_at z.number i + (one_at x.number i + count_of i a + count_of i b)
     + (one_at y.number i + count_of i c + count_of i d) ≤ 1 =
     λ i least most. omega (arith, counts i, once i least most) in
     let high_x = sided-height side x a b ab in
@@ -46,9 +46,9 @@ rearranged layout side x y z a b c d t height red cut before after set some_x in
     (still x.number some_x set.first (λ i least most. omega (arith, at i least most)) sc)
     (still x.number some_x set.first (λ i least most. omega (arith, at i least most)) sd)
     (λ i least most. omega (arith, at i least most)) cd (λ e. absurd (cc (e, black_y))) in
-    let changes = Changes-more (Changes-more (wrote layout x.number (val_of x) before set.one some_x set.first)
-    (wrote layout y.number (val_of y) set.one set.two some_y set.second))
-    (wrote layout z.number (val_of z) set.two after some_z set.third) in
+    let changes = Changes-more (Changes-more (wrote region x.number (val_of x) before set.one some_x set.first)
+    (wrote region y.number (val_of y) set.one set.two some_y set.second))
+    (wrote region z.number (val_of z) set.two after some_z set.third) in
     record {
       tree = sided side z (sided side x a b) (sided side y c d);
       items = items;
@@ -61,20 +61,20 @@ rearranged layout side x y z a b c d t height red cut before after set some_x in
         ap fall_of set.fell,
       );
       colour = λ e. sym red_z ∙ e;
-      stands = subst (λ n. Stands layout after n (sided side z (sided side x a b) (sided side y c d))) (sym set.root)
-          (written side z some_z in_z set.third (subst (λ n. Stands layout set.two n (sided side x a b)) x_is near)
-          (subst (λ n. Stands layout set.two n (sided side y c d)) y_is far)
+      stands = subst (λ n. Stands region after n (sided side z (sided side x a b) (sided side y c d))) (sym set.root)
+          (written side z some_z in_z set.third (subst (λ n. Stands region set.two n (sided side x a b)) x_is near)
+          (subst (λ n. Stands region set.two n (sided side y c d)) y_is far)
           (λ i least most. omega (arith, at i least most, on-counts i side)) same (λ _. (black_x, black_y)));
       keeps = Changes-within (λ i none. omega (arith, counts i)) changes;
     }
 
 -- the outer child of the sibling is red
-pub lifts-outer : {layout : Layout} (side : Side) (held p s : Node) {o : Node} {cut : Cut}
-    {before mid after : List Val} → FindsRed layout (child (other side) s) (Some o) before mid → Arranges layout
+pub lifts-outer : {region : Region} (side : Side) (held p s : Node) {o : Node} {cut : Cut}
+    {before mid after : List Val} → FindsRed region (child (other side) s) (Some o) before mid → Arranges region
     (with_red false (with_child (other side) (child side s) p)) (with_red false o)
-    (with_red p.red (with_child side p.number s)) cut before after → Lifts layout side false held p s cut before after
-lifts-outer {layout} side held p s {o} {cut} {before} {after} finds set near a outer above =
-    let red : IsRedFork layout before side outer o = finds.1 side outer above.fork.far_stands in
+    (with_red p.red (with_child side p.number s)) cut before after → Lifts region side false held p s cut before after
+lifts-outer {region} side held p s {o} {cut} {before} {after} finds set near a outer above =
+    let red : IsRedFork region before side outer o = finds.1 side outer above.fork.far_stands in
     let h = rw red.tree at above in
     let b = red.near in
     let c = red.far in
@@ -86,7 +86,7 @@ lifts-outer {layout} side held p s {o} {cut} {before} {after} finds set near a o
     let high_o = sided-height side o b c red.fork.heights in
     let black = ap blackness h.colour in
     let no_black = ap blackness red.red in (
-      rw red.tree (rearranged layout side p' o' s' near a b c (sided side p near all)
+      rw red.tree (rearranged region side p' o' s' near a b c (sided side p near all)
           (black_height all + blackness p.red) p.red cut before after set h.gap.number h.gap.within
           red.fork.number red.fork.within h.fork.number
           h.fork.within refl refl refl (rw (child-kept_too side (child side s) p) h.gap.near_stands)
@@ -100,13 +100,13 @@ lifts-outer {layout} side held p s {o} {cut} {before} {after} finds set near a o
     )
 
 -- the inner child of the sibling is red: it comes up
-pub lifts-inner : {layout : Layout} (side : Side) (held p s : Node) {o : Node} {cut : Cut}
-    {before mid after : List Val} → FindsRed layout (child side s) (Some o) before mid → Arranges layout
+pub lifts-inner : {region : Region} (side : Side) (held p s : Node) {o : Node} {cut : Cut}
+    {before mid after : List Val} → FindsRed region (child side s) (Some o) before mid → Arranges region
     (with_red false (with_child (other side) (child side o) p)) (with_child side (child (other side) o) s)
     (with_red p.red (with_child (other side) s.number (with_child side p.number o))) cut before after →
-    Lifts layout side false held p s cut before after
-lifts-inner {layout} side held p s {o} {cut} {before} {after} finds set near inner c above =
-    let red : IsRedFork layout before side inner o = finds.1 side inner above.fork.near_stands in
+    Lifts region side false held p s cut before after
+lifts-inner {region} side held p s {o} {cut} {before} {after} finds set near inner c above =
+    let red : IsRedFork region before side inner o = finds.1 side inner above.fork.near_stands in
     let h = rw red.tree at above in
     let a = red.near in
     let b = red.far in
@@ -118,7 +118,7 @@ lifts-inner {layout} side held p s {o} {cut} {before} {after} finds set near inn
     let high_o = sided-height side o a b red.fork.heights in
     let black = ap blackness h.colour in
     let no_black = ap blackness red.red in (
-      rw red.tree (rearranged layout side p' s' o' near a b c (sided side p near all)
+      rw red.tree (rearranged region side p' s' o' near a b c (sided side p near all)
           (black_height all + blackness p.red) p.red cut before after set h.gap.number h.gap.within
           h.fork.number h.fork.within red.fork.number
           red.fork.within refl h.colour refl (rw (child-kept_too side (child side o) p) h.gap.near_stands)
@@ -134,22 +134,22 @@ lifts-inner {layout} side held p s {o} {cut} {before} {after} finds set near inn
     )
 
 -- both children of the sibling are black: it becomes red
-pub lifts-none : {layout : Layout} (side : Side) {held p s : Node} {cut : Cut} {before mid next after : List Val} →
-    FindsRed layout (child (other side) s) None before mid → FindsRed layout (child side s) None before next →
-    Recolours layout held p s cut before after → Lifts layout side false held p s cut before after
-lifts-none {layout} side {held} {p} {s} {cut} {before} {after} sees_far sees_near set near a c h =
+pub lifts-none : {region : Region} (side : Side) {held p s : Node} {cut : Cut} {before mid next after : List Val} →
+    FindsRed region (child (other side) s) None before mid → FindsRed region (child side s) None before next →
+    Recolours region held p s cut before after → Lifts region side false held p s cut before after
+lifts-none {region} side {held} {p} {s} {cut} {before} {after} sees_far sees_near set near a c h =
     let all = sided side s a c in
     let p' = with_red false p in
     let s' = with_red true s in
-    let once : (i : ℕ) → 0 < i → i ≤ layout.tree →
+    let once : (i : ℕ) → 0 < i → i ≤ region.nodes →
     one_at p.number i + count_of i near + (one_at s.number i + count_of i a + count_of i c) ≤ 1 =
     λ i least most. omega (arith, h.gap.once i least most, on-counts i side) in
     let apart : one_at p.number s.number ≡ 0 =
     omega (arith, once s.number h.fork.number h.fork.within, one_at-self s.number) in
     let set_p = set.second
-    (Sets-apart layout s.number p.number (val_of s') before set.mid apart set.first ∙ h.gap.held_is) in
-    let changes = Changes-more (wrote layout s.number (val_of s') before set.mid h.fork.number set.first)
-    (wrote layout p.number (val_of p') set.mid after h.gap.number set_p) in
+    (Sets-apart region s.number p.number (val_of s') before set.mid apart set.first ∙ h.gap.held_is) in
+    let changes = Changes-more (wrote region s.number (val_of s') before set.mid h.fork.number set.first)
+    (wrote region p.number (val_of p') set.mid after h.gap.number set_p) in
     let high = sided-height side s a c h.fork.heights in
     let high' = sided-height side s' a c h.fork.heights in
     let black = ap blackness h.colour in
@@ -166,7 +166,7 @@ lifts-none {layout} side {held} {p} {s} {cut} {before} {after} sees_far sees_nea
         height_is = omega (arith, sided-height side p' near (sided side s' a c) same, falls_unless_red p.red);
         colour = λ e. absurd (cc e);
         stands = written side p' h.gap.number h.gap.within set_p near_too
-            (subst (λ n. Stands layout set.mid n (sided side s' a c)) h.gap.far_stands.root far)
+            (subst (λ n. Stands region set.mid n (sided side s' a c)) h.gap.far_stands.root far)
             (λ i least most. omega (arith, once i least most, on-counts i side)) same (λ e. absurd (cc e));
         keeps = Changes-within (λ i none. omega (arith, on-counts i side)) changes;
       }),

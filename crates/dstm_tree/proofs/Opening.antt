@@ -1,7 +1,7 @@
 -- The map in which the tree is empty and each node is free, in rising order.
 use Rattle.dstm_tree.proofs.Base.{◌≡◌, ℕ, zero, suc, ◌+◌, ◌<◌, ◌≤◌, List, [], ◌∷◌, arith, refl, sym, ◌∙◌, ap, inl, inr}
-use Rattle.dstm_tree.proofs.Base.{eq-eqb, cond, if◌then◌else◌, ◌==◌, cases_eq, ne_eqb, Val, Layout, value_at, plain}
-use Rattle.dstm_tree.proofs.Base.{Store, leaf, root_of, free_of, object_of, first_of, IsFreeChain, IsTree, free_count}
+use Rattle.dstm_tree.proofs.Base.{eq-eqb, cond, if◌then◌else◌, ◌==◌, cases_eq, ne_eqb, Val, Region, value_at, plain}
+use Rattle.dstm_tree.proofs.Base.{leaf, root_of, free_of, object_of, first_of, IsFreeChain, HasItems, free_count}
 use Rattle.dstm_tree.proofs.Kept.{one_at-same, one_at-other, free_count-first}
 
 -- what follows node i of n
@@ -24,17 +24,17 @@ unfolding numbers
 first_is k zero all total = sym (next-last all k (omega arith))
 first_is k (suc n) all total = sym (next-more all k (λ e. omega arith))
 
-chain : (layout : Layout) (map : List Val) →
-    ((i : ℕ) → 0 < i → i ≤ layout.tree → value_at map (object_of layout i) ≡ plain (next_of layout.tree i)) →
-    (k n : ℕ) → 0 < k → k + n ≡ layout.tree + 1 → IsFreeChain layout map (numbers k n)
+chain : (region : Region) (map : List Val) →
+    ((i : ℕ) → 0 < i → i ≤ region.nodes → value_at map (object_of region i) ≡ plain (next_of region.nodes i)) →
+    (k n : ℕ) → 0 < k → k + n ≡ region.nodes + 1 → IsFreeChain region map (numbers k n)
 unfolding numbers
-chain layout map nodes k zero some total = tt
-chain layout map nodes k (suc n) some total =
-    let within : k ≤ layout.tree = omega arith in (
+chain region map nodes k zero some total = tt
+chain region map nodes k (suc n) some total =
+    let within : k ≤ region.nodes = omega arith in (
       some,
       within,
-      nodes k some within ∙ ap plain (sym (first_is k n layout.tree (omega arith))),
-      chain layout map nodes (k + 1) n (omega arith) (omega arith),
+      nodes k some within ∙ ap plain (sym (first_is k n region.nodes (omega arith))),
+      chain region map nodes (k + 1) n (omega arith) (omega arith),
     )
 
 none_below : (k n i : ℕ) → i < k → free_count i (numbers k n) ≡ 0
@@ -62,20 +62,18 @@ once k (suc n) i least most =
     ]
 
 -- the opening values are those of an empty tree
-pub IsTree-opening : (layout : Layout) (map : List Val) (store : Store) → store.items ≡ [] →
-    store.layout.tree ≡ layout.tree → value_at map (root_of layout) ≡ plain 0 →
-    value_at map (free_of layout) ≡ plain (next_of layout.tree 0) →
-    ((i : ℕ) → 0 < i → i ≤ layout.tree → value_at map (object_of layout i) ≡ plain (next_of layout.tree i)) →
-    IsTree layout map store
-IsTree-opening layout map store empty capacity root free nodes = record {
+pub HasItems-opening : (limit : ℕ) (region : Region) (map : List Val) → value_at map (root_of region) ≡ plain 0 →
+    value_at map (free_of region) ≡ plain (next_of region.nodes 0) →
+    ((i : ℕ) → 0 < i → i ≤ region.nodes → value_at map (object_of region i) ≡ plain (next_of region.nodes i)) →
+    HasItems limit region map []
+HasItems-opening limit region map root free nodes = record {
   tree = leaf;
-  free = numbers 1 layout.tree;
+  free = numbers 1 region.nodes;
   root = root;
-  unused = free ∙ ap plain (sym (first_is 0 layout.tree layout.tree (omega arith)));
+  unused = free ∙ ap plain (sym (first_is 0 region.nodes region.nodes (omega arith)));
   nodes = tt;
-  chain = chain layout map nodes 1 layout.tree (omega arith) (omega arith);
-  once = λ i least most. omega (arith, once 1 layout.tree i (omega (arith, least)) (omega (arith, most)));
+  chain = chain region map nodes 1 region.nodes (omega arith) (omega arith);
+  once = λ i least most. omega (arith, once 1 region.nodes i (omega (arith, least)) (omega (arith, most)));
   red_black = record { order = omega arith; black = refl; balanced = tt };
-  items = empty;
-  capacity = capacity;
+  items = refl;
 }

@@ -1,7 +1,7 @@
 -- A key is placed in a subtree.
 use Rattle.dstm_tree.proofs.Base.{◌≡◌, ℕ, ◌+◌, ◌-◌, ◌<◌, ◌≤◌, true, false, List, [], ◌∷◌, arith, refl, sym, ◌∙◌, ap}
-use Rattle.dstm_tree.proofs.Base.{Val, Layout, value_at, plain, Node, Side, Left, Placed, Found, Root, Request}
-use Rattle.dstm_tree.proofs.Base.{IsToward, leaf, count_of, root_of, free_of, object_of, first_of, HasTree, IsRead}
+use Rattle.dstm_tree.proofs.Base.{Val, Region, value_at, plain, Node, Side, Left, Placed, Found, Root, Request}
+use Rattle.dstm_tree.proofs.Base.{IsToward, leaf, count_of, root_of, free_of, object_of, first_of, FitsTree, IsRead}
 use Rattle.dstm_tree.proofs.Base.{child, sided, val_of, Reads, Sets, free_count, IsFree, IsTaken, TakesFirstFree}
 use Rattle.dstm_tree.proofs.Base.{CanPlace, AddsRoot, Attaches, PlacesLeaf, Places, blackness, one_at}
 use Rattle.dstm_tree.proofs.Kept.{free_count-first, IsFreeChain-kept, IsFree-kept, wrote}
@@ -15,27 +15,27 @@ use Rattle.dstm_tree.proofs.Search.{part_of, read_root}
 low_of : (v : Val) (n : ℕ) → v ≡ plain n → v.low ≡ n
 low_of v n e = ap (λ (x : Val). x.low) e
 
-pub taken : (layout : Layout) (head next : Val) (before mid two after : List Val) → (head.low ≡ 0 → ⊥) →
-    Reads (free_of layout) head before mid → Reads (object_of layout head.low) next mid two →
-    Sets (free_of layout) next two after → IsTaken layout head.low before after
-taken layout head next before mid two after some read read_next set [] h =
+pub taken : (region : Region) (head next : Val) (before mid two after : List Val) → (head.low ≡ 0 → ⊥) →
+    Reads (free_of region) head before mid → Reads (object_of region head.low) next mid two →
+    Sets (free_of region) next two after → IsTaken region head.low before after
+taken region head next before mid two after some read read_next set [] h =
     absurd (some (low_of head 0 (sym read.is ∙ h.unused)))
-taken layout head next before mid two after some read read_next set (i ∷ rest) h =
+taken region head next before mid two after some read read_next set (i ∷ rest) h =
     let first : head.low ≡ i = low_of head i (sym read.is ∙ h.unused) in
     let next_is : next ≡ plain (first_of rest) =
-    sym read_next.is ∙ ap (λ m. value_at m (object_of layout head.low)) read.same ∙ ap
-    (λ j. value_at before (object_of layout j)) first ∙ h.chain.2 in (
+    sym read_next.is ∙ ap (λ m. value_at m (object_of region head.low)) read.same ∙ ap
+    (λ j. value_at before (object_of region j)) first ∙ h.chain.2 in (
       first,
       rw (read_next.same, read.same, next_is) at set,
     )
 
-leaf_root : (layout : Layout) (q : Request) (x : Node) (free : List ℕ) (before after : List Val) → (x.number ≡ 0 → ⊥) →
-    x.red ≡ true → x.key ≡ q.key → x.value ≡ q.value → 0 ≡ x.left → 0 ≡ x.right → IsFree layout before free →
-    TakesFirstFree layout x.number free before after → AddsRoot layout Left x q leaf free before after
-leaf_root layout q x [] before after some red key value left right h t = absurd (some t.0)
-leaf_root layout q x (i ∷ rest) before after some red key value left right h t =
-    let other : (n : ℕ) → 0 < n → value_at after (object_of layout n) ≡ value_at before (object_of layout n) =
-    λ n least. t.1.others (object_of layout n) (λ e. omega arith) in
+leaf_root : (region : Region) (q : Request) (x : Node) (free : List ℕ) (before after : List Val) → (x.number ≡ 0 → ⊥) →
+    x.red ≡ true → x.key ≡ q.key → x.value ≡ q.value → 0 ≡ x.left → 0 ≡ x.right → IsFree region before free →
+    TakesFirstFree region x.number free before after → AddsRoot region Left x q leaf free before after
+leaf_root region q x [] before after some red key value left right h t = absurd (some t.0)
+leaf_root region q x (i ∷ rest) before after some red key value left right h t =
+    let other : (n : ℕ) → 0 < n → value_at after (object_of region n) ≡ value_at before (object_of region n) =
+    λ n least. t.1.others (object_of region n) (λ e. omega arith) in
     record {
       near = leaf;
       far = leaf;
@@ -54,28 +54,28 @@ leaf_root layout q x (i ∷ rest) before after some red key value left right h t
       near_black = refl;
       far_black = refl;
       keeps = record {
-        root = t.1.others (root_of layout) (λ e. omega arith);
+        root = t.1.others (root_of region) (λ e. omega arith);
         nodes = λ n least most none. other n least;
         chain = record {
           unused = t.1.is;
-          chain = IsFreeChain-kept layout before after rest (λ n least most some_n. other n least) h.chain.3;
+          chain = IsFreeChain-kept region before after rest (λ n least most some_n. other n least) h.chain.3;
         };
       };
     }
 
-pub leaf-root : (layout : Layout) (q : Request) (x : Node) (before after : List Val) → (x.number ≡ 0 → ⊥) →
-    x.red ≡ true → x.key ≡ q.key → x.value ≡ q.value → 0 ≡ x.left → 0 ≡ x.right → IsTaken layout x.number before after →
-    PlacesLeaf layout q (Root x) before after
-leaf-root layout q x before after some red key value left right taken free h =
-    leaf_root layout q x free before after some red key value left right h (taken free h)
+pub leaf-root : (region : Region) (q : Request) (x : Node) (before after : List Val) → (x.number ≡ 0 → ⊥) →
+    x.red ≡ true → x.key ≡ q.key → x.value ≡ q.value → 0 ≡ x.left → 0 ≡ x.right → IsTaken region x.number before after →
+    PlacesLeaf region q (Root x) before after
+leaf-root region q x before after some red key value left right taken free h =
+    leaf_root region q x free before after some red key value left right h (taken free h)
 
 -- ---- where the search goes on
 
-pub can-below : {layout : Layout} (side : Side) {at depth : ℕ} {x : Node} {before mid : List Val} → HasTree layout →
-    IsRead layout at x before mid → (at ≡ 0 → ⊥) → CanPlace layout before at depth →
-    CanPlace layout mid (child side x) (depth - 1)
+pub can-below : {region : Region} (side : Side) {at depth : ℕ} {x : Node} {before mid : List Val} → FitsTree region →
+    IsRead region at x before mid → (at ≡ 0 → ⊥) → CanPlace region before at depth →
+    CanPlace region mid (child side x) (depth - 1)
 unfolding part_of
-can-below {layout} side {depth} {x} has read some h =
+can-below {region} side {depth} {x} has read some h =
     let r = read_root side has read some h.sub in
     rw read.same (record {
       sub = part_of r;
@@ -84,14 +84,14 @@ can-below {layout} side {depth} {x} has read some h =
       once = λ i least most. omega (arith, h.once i least most, ap (count_of i) r.tree, on-counts i side);
     })
 
-pub place-below : {layout : Layout} (q : Request) (side : Side) {at : ℕ} (depth : ℕ) {x : Node} (below placed : Placed)
-    {before mid : List Val} (two after : List Val) → HasTree layout → (at ≡ 0 → ⊥) → IsToward side q.key x.key →
-    IsRead layout at x before mid → Places layout q (child side x) (depth - 1) below before two →
-    Attaches layout side x below placed two after → Places layout q at depth placed before after
+pub place-below : {region : Region} (q : Request) (side : Side) {at : ℕ} (depth : ℕ) {x : Node} (below placed : Placed)
+    {before mid : List Val} (two after : List Val) → FitsTree region → (at ≡ 0 → ⊥) → IsToward side q.key x.key →
+    IsRead region at x before mid → Places region q (child side x) (depth - 1) below before two →
+    Attaches region side x below placed two after → Places region q at depth placed before after
 unfolding part_of
-place-below {layout} q side depth {x} below placed {before} two after has some way read does attach h =
+place-below {region} q side depth {x} below placed {before} two after has some way read does attach h =
     let r = read_root side has read some h.sub in
-    let once : (i : ℕ) → 0 < i → i ≤ layout.tree → count_of i (sided side x r.near r.far) + free_count i h.free ≤ 1 =
+    let once : (i : ℕ) → 0 < i → i ≤ region.nodes → count_of i (sided side x r.near r.far) + free_count i h.free ≤ 1 =
     λ i least most. omega (arith, h.once i least most, ap (count_of i) r.tree) in
     rw r.tree (attach q r.near r.far h.free before
     (record { fork = r.fork; low = h.sub.low; high = h.sub.high; order = r.order; once = once }) way (does (record {
@@ -103,15 +103,15 @@ place-below {layout} q side depth {x} below placed {before} two after has some w
 
 -- ---- a key that is there
 
-pub place-replaced : {layout : Layout} (q : Request) {at : ℕ} (depth : ℕ) {x : Node} {before mid after : List Val} →
-    HasTree layout → (at ≡ 0 → ⊥) → q.key ≡ x.key → q.replaces ≡ true → IsRead layout at x before mid →
-    Sets (object_of layout x.number) (val_of (record x { value = q.value })) before after →
-    Places layout q at depth Found before after
-place-replaced {layout} q depth {x} {before} {after} has some same replace read set h =
+pub place-replaced : {region : Region} (q : Request) {at : ℕ} (depth : ℕ) {x : Node} {before mid after : List Val} →
+    FitsTree region → (at ≡ 0 → ⊥) → q.key ≡ x.key → q.replaces ≡ true → IsRead region at x before mid →
+    Sets (object_of region x.number) (val_of (record x { value = q.value })) before after →
+    Places region q at depth Found before after
+place-replaced {region} q depth {x} {before} {after} has some same replace read set h =
     let r = read_root Left has read some h.sub in
     let y = record x { value = q.value } in
-    let changes = wrote layout x.number (val_of y) before after r.fork.number set in
-    let once : (i : ℕ) → 0 < i → i ≤ layout.tree →
+    let changes = wrote region x.number (val_of y) before after r.fork.number set in
+    let once : (i : ℕ) → 0 < i → i ≤ region.nodes →
     one_at x.number i + count_of i r.near + count_of i r.far + free_count i h.free ≤ 1 =
     λ i least most. omega (arith, h.once i least most, ap (count_of i) r.tree) in
     let within : (i : ℕ) → one_at x.number i ≤ count_of i (sided Left x r.near r.far) = λ i. omega arith in
@@ -131,10 +131,10 @@ place-replaced {layout} q depth {x} {before} {after} has some same replace read 
       };
     })
 
-pub place-found : {layout : Layout} (q : Request) {at : ℕ} (depth : ℕ) {x : Node} {before mid : List Val} →
-    HasTree layout → (at ≡ 0 → ⊥) → q.key ≡ x.key → q.replaces ≡ false → IsRead layout at x before mid →
-    Places layout q at depth Found before mid
-place-found {layout} q depth {x} {before} has some same keep read h =
+pub place-found : {region : Region} (q : Request) {at : ℕ} (depth : ℕ) {x : Node} {before mid : List Val} →
+    FitsTree region → (at ≡ 0 → ⊥) → q.key ≡ x.key → q.replaces ≡ false → IsRead region at x before mid →
+    Places region q at depth Found before mid
+place-found {region} q depth {x} {before} has some same keep read h =
     let r = read_root Left has read some h.sub in
     rw (read.same, r.tree) (record {
       tree = sided Left x r.near r.far;
@@ -143,6 +143,6 @@ place-found {layout} q depth {x} {before} has some same keep read h =
       counts = λ i. refl;
       height = refl;
       colour = refl;
-      stands = stand layout before Left x r.near r.far r.fork;
+      stands = stand region before Left x r.near r.far r.fork;
       keeps = record { root = refl; nodes = λ i least most none. refl; chain = h.is_free };
     })

@@ -1,8 +1,8 @@
 -- A key is taken out of a subtree.
 use Rattle.dstm_tree.proofs.Base.{◌≡◌, ℕ, ◌+◌, ◌-◌, ◌<◌, ◌≤◌, Bool, false, List, ◌∷◌, ◌++◌, arith, refl, sym, ◌∙◌, ap}
-use Rattle.dstm_tree.proofs.Base.{subst, Some, None, Val, Layout, value_at, value_of, without_item, Node, Side}
+use Rattle.dstm_tree.proofs.Base.{subst, Some, None, Val, Region, value_at, value_of, without_item, Node, Side}
 use Rattle.dstm_tree.proofs.Base.{Left, Right, Cut, Least, Removed, other, IsToward, Tree, is_red, items_of, count_of}
-use Rattle.dstm_tree.proofs.Base.{black_height, IsOrdered, object_of, HasTree, IsRead, Subtree, Stands, Fork, child}
+use Rattle.dstm_tree.proofs.Base.{black_height, IsOrdered, object_of, FitsTree, IsRead, Subtree, Stands, Fork, child}
 use Rattle.dstm_tree.proofs.Base.{with_child, with_red, sided, val_of, Sets, blackness, Gap, HasGap, Closes, Became}
 use Rattle.dstm_tree.proofs.Base.{Loses, TakesLeast, RemovesRoot, RemovesIf, Hoists, false_from_ne_true}
 use Rattle.dstm_tree.proofs.Base.{true_from_ne_false, one_at}
@@ -15,11 +15,11 @@ use Rattle.dstm_tree.proofs.Search.{stands_of, Rooted, part_of, read_root}
 
 -- ---- a child takes its parent's place
 
-pub hoist-some : (layout : Layout) (number : ℕ) (red : Bool) (x y : Node) (before mid after : List Val) →
-    HasTree layout → (number ≡ 0 → ⊥) → IsRead layout number x before mid → y ≡ with_red false x →
-    Sets (object_of layout y.number) (val_of y) mid after →
-    Hoists layout number red (record { root = number; fell = false }) before after
-hoist-some layout number red x y before mid after has some read y_is set t h once height colour =
+pub hoist-some : (region : Region) (number : ℕ) (red : Bool) (x y : Node) (before mid after : List Val) →
+    FitsTree region → (number ≡ 0 → ⊥) → IsRead region number x before mid → y ≡ with_red false x →
+    Sets (object_of region y.number) (val_of y) mid after →
+    Hoists region number red (record { root = number; fell = false }) before after
+hoist-some region number red x y before mid after has some read y_is set t h once height colour =
     let found = forked_read Left has read some h in
     let l = found.near in
     let r = found.far in
@@ -28,14 +28,14 @@ hoist-some layout number red x y before mid after has some read y_is set t h onc
     let is_red_x = true_from_ne_false x.red (λ e. omega (arith, ap blackness e)) in
     let black = false_from_ne_true red (λ e. cc (ap is_red found.tree, is_red_x, colour e)) in
     let set_x = rw (read.same, y_is) at set in
-    let changes = wrote layout x.number (val_of x') before after found.fork.number set_x in
+    let changes = wrote region x.number (val_of x') before after found.fork.number set_x in
     record {
       tree = sided Left x' l r;
       items = ap items_of (sym found.tree);
       counts = λ i. ap (count_of i) (sym found.tree);
       height_is = omega (arith, ap blackness black);
       colour = λ e. absurd (cc e);
-      stands = subst (λ n. Stands layout after n (sided Left x' l r)) read.number
+      stands = subst (λ n. Stands region after n (sided Left x' l r)) read.number
           (written Left x' found.fork.number found.fork.within set_x found.fork.near_stands found.fork.far_stands
           (λ i least most. omega (arith, once i least most, ap (count_of i) found.tree)) found.fork.heights
           (λ e. absurd (cc e)));
@@ -43,9 +43,9 @@ hoist-some layout number red x y before mid after has some read y_is set t h onc
     }
 
 -- a root with no child on a side is taken out
-pub hoisted : {layout : Layout} {side : Side} {low high depth : ℕ} {t : Tree} {x : Node} (cut : Cut) {before : List Val}
-    (after : List Val) → child side x ≡ 0 → Hoists layout (child (other side) x) x.red cut before after →
-    (r : Rooted layout before side low high depth t x) → (lost : Loses layout x.number t cut before after)
+pub hoisted : {region : Region} {side : Side} {low high depth : ℕ} {t : Tree} {x : Node} (cut : Cut) {before : List Val}
+    (after : List Val) → child side x ≡ 0 → Hoists region (child (other side) x) x.red cut before after →
+    (r : Rooted region before side low high depth t x) → (lost : Loses region x.number t cut before after)
     × (items_of lost.became.tree ≡ items_of r.far)
 hoisted {side} {t} {x} cut after none does r =
     let is_leaf = missing_child none r.fork.near_stands in
@@ -73,14 +73,14 @@ hoisted {side} {t} {x} cut after none does r =
 
 -- ---- a subtree of a node lost one, and then the node is balanced
 
-pub gap-after : {layout : Layout} {side : Side} {x : Node} (k v : ℕ) {near far : Tree} {cut : Cut}
-    {before two : List Val} → Fork layout before side x near far →
-    ((i : ℕ) → 0 < i → i ≤ layout.tree → count_of i (sided side x near far) ≤ 1) →
-    (b : Became layout near cut before two) →
-    Gap layout side x (with_child side cut.root (record x { key = k; value = v })) cut.fell b.tree far two
-gap-after {layout} {side} {x} k v {near} {far} {cut} {two} fork once b =
+pub gap-after : {region : Region} {side : Side} {x : Node} (k v : ℕ) {near far : Tree} {cut : Cut}
+    {before two : List Val} → Fork region before side x near far →
+    ((i : ℕ) → 0 < i → i ≤ region.nodes → count_of i (sided side x near far) ≤ 1) →
+    (b : Became region near cut before two) →
+    Gap region side x (with_child side cut.root (record x { key = k; value = v })) cut.fell b.tree far two
+gap-after {region} {side} {x} k v {near} {far} {cut} {two} fork once b =
     let y = record x { key = k; value = v } in
-    let apart : (i : ℕ) → 0 < i → i ≤ layout.tree → one_at x.number i + count_of i near + count_of i far ≤ 1 =
+    let apart : (i : ℕ) → 0 < i → i ≤ region.nodes → one_at x.number i + count_of i near + count_of i far ≤ 1 =
     λ i least most. omega (arith, once i least most, on-counts i side) in
     record {
       number = fork.number;
@@ -97,21 +97,21 @@ gap-after {layout} {side} {x} k v {near} {far} {cut} {two} fork once b =
     }
 
 -- the node over what is left is at a gap
-pub has-gap : {layout : Layout} {side : Side} {low high depth k v : ℕ} {t : Tree} {x p : Node} {cut : Cut}
+pub has-gap : {region : Region} {side : Side} {low high depth k v : ℕ} {t : Tree} {x p : Node} {cut : Cut}
     {before two : List Val} → p ≡ with_child side cut.root (record x { key = k; value = v }) →
-    (r : Rooted layout before side low high depth t x) → Became layout r.near cut before two →
-    HasGap layout side x p cut.fell two
+    (r : Rooted region before side low high depth t x) → Became region r.near cut before two →
+    HasGap region side x p cut.fell two
 has-gap {k} {v} p_is r b = rw p_is (_, (r.far, gap-after k v r.fork r.once b))
 
 -- the gap is closed
-pub loses-below : {layout : Layout} {side : Side} {x p : Node} (k v : ℕ) {number : ℕ} {near far : Tree} {cut : Cut}
-    (end : Cut) {before two : List Val} (after : List Val) → Fork layout before side x near far →
-    ((i : ℕ) → 0 < i → i ≤ layout.tree → count_of i (sided side x near far) ≤ 1) →
-    p ≡ with_child side cut.root (record x { key = k; value = v }) → (lost : Loses layout number near cut before two) →
-    Closes layout side x p cut.fell end two after →
-    (whole : Loses layout number (sided side x near far) end before after)
+pub loses-below : {region : Region} {side : Side} {x p : Node} (k v : ℕ) {number : ℕ} {near far : Tree} {cut : Cut}
+    (end : Cut) {before two : List Val} (after : List Val) → Fork region before side x near far →
+    ((i : ℕ) → 0 < i → i ≤ region.nodes → count_of i (sided side x near far) ≤ 1) →
+    p ≡ with_child side cut.root (record x { key = k; value = v }) → (lost : Loses region number near cut before two) →
+    Closes region side x p cut.fell end two after →
+    (whole : Loses region number (sided side x near far) end before after)
     × (items_of whole.became.tree ≡ items_of (sided side (record x { key = k; value = v }) lost.became.tree far))
-loses-below {layout} {side} {x} k v {near} {far} {cut} end {two} after fork once p_is lost closes =
+loses-below {region} {side} {x} k v {near} {far} {cut} end {two} after fork once p_is lost closes =
     let b = lost.became in
     let y = with_child side cut.root (record x { key = k; value = v }) in
     let s = sided side y b.tree far in
@@ -136,27 +136,27 @@ loses-below {layout} {side} {x} k v {near} {far} {cut} end {two} after fork once
 
 -- ---- where the walk goes on
 
-pub subtree-within : {layout : Layout} {map : List Val} {at depth : ℕ} → Subtree layout map at depth → at ≤ layout.tree
+pub subtree-within : {region : Region} {map : List Val} {at depth : ℕ} → Subtree region map at depth → at ≤ region.nodes
 subtree-within h = stands-within (stands_of h)
 
-pub go-below : {layout : Layout} (side : Side) {at depth : ℕ} {x : Node} {before mid : List Val} → HasTree layout →
-    IsRead layout at x before mid → (at ≡ 0 → ⊥) → Subtree layout before at depth →
-    Subtree layout mid (child side x) (depth - 1)
-go-below {layout} side {depth} {x} has read some h =
+pub go-below : {region : Region} (side : Side) {at depth : ℕ} {x : Node} {before mid : List Val} → FitsTree region →
+    IsRead region at x before mid → (at ≡ 0 → ⊥) → Subtree region before at depth →
+    Subtree region mid (child side x) (depth - 1)
+go-below {region} side {depth} {x} has read some h =
     rw read.same (part_of (read_root side has read some h))
 
-pub depth-some : {layout : Layout} {at depth : ℕ} {x : Node} {before mid : List Val} → HasTree layout →
-    IsRead layout at x before mid → (at ≡ 0 → ⊥) → Subtree layout before at depth → 0 < depth
+pub depth-some : {region : Region} {at depth : ℕ} {x : Node} {before mid : List Val} → FitsTree region →
+    IsRead region at x before mid → (at ≡ 0 → ⊥) → Subtree region before at depth → 0 < depth
 depth-some has read some h =
     let r = read_root Left has read some h in
     omega arith
 
 -- ---- the least key
 
-pub take-least-here : {layout : Layout} {at : ℕ} (depth : ℕ) {x : Node} (cut : Cut) {before mid : List Val}
-    (after : List Val) → HasTree layout → (at ≡ 0 → ⊥) → x.left ≡ 0 → IsRead layout at x before mid →
-    Hoists layout x.right x.red cut mid after → TakesLeast layout at depth (record { node = x; cut = cut }) before after
-take-least-here {layout} depth {x} cut after has some none read does h =
+pub take-least-here : {region : Region} {at : ℕ} (depth : ℕ) {x : Node} (cut : Cut) {before mid : List Val}
+    (after : List Val) → FitsTree region → (at ≡ 0 → ⊥) → x.left ≡ 0 → IsRead region at x before mid →
+    Hoists region x.right x.red cut mid after → TakesLeast region at depth (record { node = x; cut = cut }) before after
+take-least-here {region} depth {x} cut after has some none read does h =
     let r = read_root Left has read some h in
     let (lost, items) = hoisted cut after none (rw read.same at does) r in
     record {
@@ -165,13 +165,13 @@ take-least-here {layout} depth {x} cut after has some none read does h =
           (missing_child none r.fork.near_stands) ∙ ap (λ xs. item_of x ∷ xs) (sym items);
     }
 
-pub take-least-below : {layout : Layout} {at : ℕ} (depth : ℕ) {x p : Node} (least : Least) (cut : Cut)
-    {before mid : List Val} (two after : List Val) → HasTree layout → (at ≡ 0 → ⊥) →
-    p ≡ with_child Left least.cut.root x → IsRead layout at x before mid →
-    TakesLeast layout x.left (depth - 1) least mid two → Closes layout Left x p least.cut.fell cut two after →
-    TakesLeast layout at depth (record { node = least.node; cut = cut }) before after
+pub take-least-below : {region : Region} {at : ℕ} (depth : ℕ) {x p : Node} (least : Least) (cut : Cut)
+    {before mid : List Val} (two after : List Val) → FitsTree region → (at ≡ 0 → ⊥) →
+    p ≡ with_child Left least.cut.root x → IsRead region at x before mid →
+    TakesLeast region x.left (depth - 1) least mid two → Closes region Left x p least.cut.fell cut two after →
+    TakesLeast region at depth (record { node = least.node; cut = cut }) before after
 unfolding part_of
-take-least-below {layout} depth {x} least cut two after has some p_is read does closes h =
+take-least-below {region} depth {x} least cut two after has some p_is read does closes h =
     let r = read_root Left has read some h in
     let first = (rw read.same at does) (part_of r) in
     let (whole, items) = loses-below x.key x.value cut after r.fork r.once p_is first.loses closes in
@@ -183,11 +183,11 @@ take-least-below {layout} depth {x} least cut two after has some p_is read does 
 -- ---- the root's own key
 
 -- a node with one child or none
-pub remove-only : {layout : Layout} (side : Side) (depth : ℕ) {n : ℕ} (x : Node) (cut : Cut) (before after : List Val) →
-    HasTree layout → 0 < x.number → child side x ≡ 0 → n ≡ child (other side) x →
-    Hoists layout n x.red cut before after →
-    RemovesRoot layout x depth (record { number = x.number; cut = cut }) before after
-remove-only {layout} side depth x cut before after has some none n_is does read h =
+pub remove-only : {region : Region} (side : Side) (depth : ℕ) {n : ℕ} (x : Node) (cut : Cut) (before after : List Val) →
+    FitsTree region → 0 < x.number → child side x ≡ 0 → n ≡ child (other side) x →
+    Hoists region n x.red cut before after →
+    RemovesRoot region x depth (record { number = x.number; cut = cut }) before after
+remove-only {region} side depth x cut before after has some none n_is does read h =
     let r = read_root side has read (λ e. omega arith) h in
     let is_leaf = missing_child none r.fork.near_stands in
     let order = subst (λ l. IsOrdered h.low h.high (sided side x l r.far)) is_leaf r.order in
@@ -200,13 +200,13 @@ remove-only {layout} side depth x cut before after has some none n_is does read 
     }
 
 -- a node with two children gets the next key
-pub remove-between : {layout : Layout} (depth : ℕ) (x : Node) {p : Node} (least : Least) (cut : Cut)
-    (before two after : List Val) → HasTree layout → 0 < x.number →
+pub remove-between : {region : Region} (depth : ℕ) (x : Node) {p : Node} (least : Least) (cut : Cut)
+    (before two after : List Val) → FitsTree region → 0 < x.number →
     p ≡ with_child Right least.cut.root (record x { key = least.node.key; value = least.node.value }) →
-    TakesLeast layout x.right (depth - 1) least before two → Closes layout Right x p least.cut.fell cut two after →
-    RemovesRoot layout x depth (record { number = least.node.number; cut = cut }) before after
+    TakesLeast region x.right (depth - 1) least before two → Closes region Right x p least.cut.fell cut two after →
+    RemovesRoot region x depth (record { number = least.node.number; cut = cut }) before after
 unfolding part_of
-remove-between {layout} depth x least cut before two after has some p_is does closes read h =
+remove-between {region} depth x least cut before two after has some p_is does closes read h =
     let r = read_root Right has read (λ e. omega arith) h in
     let first = does (part_of r) in
     let (whole, items) = loses-below least.node.key least.node.value cut after r.fork r.once p_is first.loses closes in
@@ -220,25 +220,25 @@ remove-between {layout} depth x least cut before two after has some p_is does cl
 -- ---- a key below the root
 
 -- a node that was read is what stands in the map
-pub read-again : {layout : Layout} {at : ℕ} {x : Node} {before mid : List Val} → IsRead layout at x before mid →
-    IsRead layout x.number x mid mid
-read-again {layout} {before} read = rw read.same (record {
+pub read-again : {region : Region} {at : ℕ} {x : Node} {before mid : List Val} → IsRead region at x before mid →
+    IsRead region x.number x mid mid
+read-again {region} {before} read = rw read.same (record {
   number = refl;
-  value = ap (λ i. value_at before (object_of layout i)) read.number ∙ read.value;
+  value = ap (λ i. value_at before (object_of region i)) read.number ∙ read.value;
   left = read.left;
   right = read.right;
   same = refl;
 })
 
-pub remove-here : {layout : Layout} {at : ℕ} (depth : ℕ) {key : ℕ} {x : Node} (removed : Removed)
-    {before mid : List Val} (after : List Val) → key ≡ x.key → IsRead layout at x before mid →
-    RemovesRoot layout x depth removed mid after → RemovesIf layout key at depth (Some removed) before after
-remove-here {layout} {at} depth {x} removed {before} after same read does =
+pub remove-here : {region : Region} {at : ℕ} (depth : ℕ) {key : ℕ} {x : Node} (removed : Removed)
+    {before mid : List Val} (after : List Val) → key ≡ x.key → IsRead region at x before mid →
+    RemovesRoot region x depth removed mid after → RemovesIf region key at depth (Some removed) before after
+remove-here {region} {at} depth {x} removed {before} after same read does =
     rw (same, ← read.number) ((rw read.same at does) (rw read.same at (read-again read)))
 
-pub remove-none : {layout : Layout} (side : Side) {at : ℕ} (depth key : ℕ) {x : Node} {before mid : List Val}
-    (two : List Val) → HasTree layout → (at ≡ 0 → ⊥) → IsToward side key x.key → IsRead layout at x before mid →
-    RemovesIf layout key (child side x) (depth - 1) None before two → RemovesIf layout key at depth None before two
+pub remove-none : {region : Region} (side : Side) {at : ℕ} (depth key : ℕ) {x : Node} {before mid : List Val}
+    (two : List Val) → FitsTree region → (at ≡ 0 → ⊥) → IsToward side key x.key → IsRead region at x before mid →
+    RemovesIf region key (child side x) (depth - 1) None before two → RemovesIf region key at depth None before two
 unfolding part_of
 remove-none side depth key {x} two has some way read does h =
     let r = read_root side has read some h in
@@ -248,12 +248,12 @@ remove-none side depth key {x} two has some way read does h =
       none.1,
     )
 
-pub remove-some : {layout : Layout} (side : Side) {at : ℕ} (depth key : ℕ) {x p : Node} (removed : Removed) (cut : Cut)
-    {before mid : List Val} (two after : List Val) → HasTree layout → (at ≡ 0 → ⊥) → IsToward side key x.key →
-    p ≡ with_child side removed.cut.root x → IsRead layout at x before mid →
-    RemovesIf layout key (child side x) (depth - 1) (Some removed) before two →
-    Closes layout side x p removed.cut.fell cut two after →
-    RemovesIf layout key at depth (Some (record { number = removed.number; cut = cut })) before after
+pub remove-some : {region : Region} (side : Side) {at : ℕ} (depth key : ℕ) {x p : Node} (removed : Removed) (cut : Cut)
+    {before mid : List Val} (two after : List Val) → FitsTree region → (at ≡ 0 → ⊥) → IsToward side key x.key →
+    p ≡ with_child side removed.cut.root x → IsRead region at x before mid →
+    RemovesIf region key (child side x) (depth - 1) (Some removed) before two →
+    Closes region side x p removed.cut.fell cut two after →
+    RemovesIf region key at depth (Some (record { number = removed.number; cut = cut })) before after
 unfolding part_of
 remove-some side depth key {x} removed cut two after has some way p_is read does closes h =
     let r = read_root side has read some h in

@@ -1,6 +1,6 @@
 -- How many nodes a tree and a free chain have, where each of n numbers stands in one of them, once.
 use Rattle.dstm_tree.proofs.Base.{◌≡◌, ℕ, zero, suc, ◌+◌, ◌<◌, ◌≤◌, List, [], ◌∷◌, length, arith, refl, inl, inr}
-use Rattle.dstm_tree.proofs.Base.{length-append, cases_eq, Val, Layout, Tree, leaf, node, items_of, count_of, Holds}
+use Rattle.dstm_tree.proofs.Base.{length-append, cases_eq, Val, Region, Tree, leaf, node, items_of, count_of, Holds}
 use Rattle.dstm_tree.proofs.Base.{IsFreeChain, one_at, free_count}
 use Rattle.dstm_tree.proofs.Kept.{one_at-same, one_at-other, free_count-first}
 
@@ -48,39 +48,39 @@ total-one_at (suc n) j least most =
           omega (arith, total-one_at n j least (omega (arith, most, other)))
     ]
 
-total-tree : (layout : Layout) (map : List Val) (t : Tree) → Holds layout map t →
-    total layout.tree (λ i. count_of i t) ≡ length (items_of t)
-total-tree layout map leaf nodes = total-none layout.tree
-total-tree layout map (node n red l k v r) nodes =
-    let size = layout.tree in
+total-tree : (region : Region) (map : List Val) (t : Tree) → Holds region map t →
+    total region.nodes (λ i. count_of i t) ≡ length (items_of t)
+total-tree region map leaf nodes = total-none region.nodes
+total-tree region map (node n red l k v r) nodes =
+    let size = region.nodes in
     let root = total-one_at size n nodes.0 nodes.1 in
-    let left = total-tree layout map l nodes.3 in
-    let right = total-tree layout map r nodes.4 in
+    let left = total-tree region map l nodes.3 in
+    let right = total-tree region map r nodes.4 in
     let outer = total-add size (λ i. one_at n i + count_of i l) (λ i. count_of i r) in
     let inner = total-add size (one_at n) (λ i. count_of i l) in
     omega (arith, length-append (items_of l) ((k, v) ∷ items_of r))
 
-total-chain : (layout : Layout) (map : List Val) (free : List ℕ) → IsFreeChain layout map free →
-    total layout.tree (λ i. free_count i free) ≡ length free
-total-chain layout map [] chain = total-none layout.tree
-total-chain layout map (n ∷ free) chain =
-    let size = layout.tree in
+total-chain : (region : Region) (map : List Val) (free : List ℕ) → IsFreeChain region map free →
+    total region.nodes (λ i. free_count i free) ≡ length free
+total-chain region map [] chain = total-none region.nodes
+total-chain region map (n ∷ free) chain =
+    let size = region.nodes in
     let first = total-one_at size n chain.0 chain.1 in
-    let rest = total-chain layout map free chain.3 in
+    let rest = total-chain region map free chain.3 in
     let split = total-same size (λ i. free_count i (n ∷ free)) (λ i. one_at n i + free_count i free)
     (λ i _ _. free_count-first i n free) in
     omega (arith, total-add size (one_at n) (λ i. free_count i free))
 
-pub size_all : (layout : Layout) (map : List Val) (t : Tree) (free : List ℕ) → Holds layout map t →
-    IsFreeChain layout map free → ((i : ℕ) → 0 < i → i ≤ layout.tree → count_of i t + free_count i free ≡ 1) →
-    length (items_of t) + length free ≡ layout.tree
-size_all layout map t free nodes chain once =
-    let size = layout.tree in
+pub size_all : (region : Region) (map : List Val) (t : Tree) (free : List ℕ) → Holds region map t →
+    IsFreeChain region map free → ((i : ℕ) → 0 < i → i ≤ region.nodes → count_of i t + free_count i free ≡ 1) →
+    length (items_of t) + length free ≡ region.nodes
+size_all region map t free nodes chain once =
+    let size = region.nodes in
     let all = total-same size (λ i. count_of i t + free_count i free) (λ i. 1) once in
     omega (
       arith,
       total-ones size,
       total-add size (λ i. count_of i t) (λ i. free_count i free),
-      total-tree layout map t nodes,
-      total-chain layout map free chain,
+      total-tree region map t nodes,
+      total-chain region map free chain,
     )

@@ -1,26 +1,27 @@
 -- Steps one after the other on the same memory.
 use Rattle.std.proofs.Common.{◌≢◌}
-use Rattle.dstm_tree.proofs.Base.{◌≡◌, ◌≤◌, ℕ, ◌∙◌, List, sym, subst, Ok, Val, Layout, Ghosts, IsOpen, Sets}
+use Rattle.dstm_tree.proofs.Base.{◌≡◌, ◌≤◌, ◌+◌, ℕ, List, sym, subst, Ok, Val, Region, Ghosts, IsOpen, Sets}
 use Rattle.dstm_mem.specs.Operates.{Operates}
 pub use Rattle.dstm_mem.proofs.Operating.{Through}
 use Rattle.dstm_mem.proofs.Operating.{operates-none, operates-as, operates-then}
+use Rattle.dstm_region.specs.Region.{size_of, IsInside}
 
 module _ {S E : Type 0} {M : Ghosts S E} where
   -- the memory after a step is open as before
-  pub open-after : {layout : Layout} {In : ℕ → Type 0} {A : Type 0} {Q T : A → Type 0}
+  pub open-after : {region : Region} {In : ℕ → Type 0} {A : Type 0} {Q T : A → Type 0}
       {R : A → List Val → List Val → Type 0} {old new : S} {x : A} →
-      IsOpen M layout old → Operates M In Q T R old new (Ok x) → IsOpen M layout new
-  open-after ready step = record {
+      IsOpen M region old → Operates M In Q T R old new (Ok x) → IsOpen M region new
+  open-after {region} ready step = record {
     tree = ready.tree;
-    objects = step.leads.objects ∙ ready.objects;
+    objects = subst (λ n. region.first + size_of region ≤ n) (sym step.leads.objects) ready.objects;
     live = step.leads.live;
     admits = step.leads.admits;
   }
 
   -- no step
-  pub steps-none : {layout : Layout} {In : ℕ → Type 0} {A : Type 0} {Q T : A → Type 0}
+  pub steps-none : {region : Region} {In : ℕ → Type 0} {A : Type 0} {Q T : A → Type 0}
       {R : A → List Val → List Val → Type 0} {old : S} {x : A} →
-      IsOpen M layout old → ((before : List Val) → R x before before) → Operates M In Q T R old old (Ok x)
+      IsOpen M region old → ((before : List Val) → R x before before) → Operates M In Q T R old old (Ok x)
   steps-none ready does = operates-none ready.admits ready.live does
 
 module _ {S E : Type 0} {M : Ghosts S E} {In : ℕ → Type 0} where
@@ -44,6 +45,6 @@ pub sets-same : {o p : ℕ} {v w : Val} {before after : List Val} → o ≡ p �
 sets-same {o} {p} {v} {w} {before} {after} object value sets =
     subst (λ u. Sets p u before after) value (subst (λ q. Sets q v before after) object sets)
 
--- an object outside the tree is none of its objects
-pub other-outside : {begin object o : ℕ} → begin ≤ object → ¬ (begin ≤ o) → o ≢ object
-other-outside {begin} first out same = out (subst (λ k. begin ≤ k) (sym same) first)
+-- an object outside the region is none of its objects
+pub other-outside : (region : Region) {object o : ℕ} → IsInside region object → ¬ IsInside region o → o ≢ object
+other-outside region inside out same = out (subst (IsInside region) (sym same) inside)

@@ -1,11 +1,11 @@
 -- A key is placed in the whole tree.
 use Rattle.dstm_tree.proofs.Base.{◌≡◌, ℕ, ◌+◌, ◌<◌, ◌≤◌, Bool, true, false, List, [], ◌∷◌, length, arith, refl, sym}
 use Rattle.dstm_tree.proofs.Base.{◌∙◌, ap, eq-eqb, if◌then◌else◌, None, IsSome, Ordering, Less, Equal, Greater, nat_cmp}
-use Rattle.dstm_tree.proofs.Base.{match_ordering, is_eq, ne_eqb, Val, Layout, KEY_LIMIT, value_at, plain, Store}
+use Rattle.dstm_tree.proofs.Base.{match_ordering, is_eq, ne_eqb, Val, Region, value_at, plain}
 use Rattle.dstm_tree.proofs.Base.{value_of, with_item, Node, Left, Placed, Full, Found, Added, Root, Pair, Request}
-use Rattle.dstm_tree.proofs.Base.{Tree, number_of, is_red, items_of, count_of, root_of, free_of, object_of, IsTree}
+use Rattle.dstm_tree.proofs.Base.{Tree, number_of, is_red, items_of, count_of, root_of, free_of, object_of, HasItems}
 use Rattle.dstm_tree.proofs.Base.{Stands, with_red, sided, val_of, Sets, ReadsRoot, free_count, IsFree, CanPlace}
-use Rattle.dstm_tree.proofs.Base.{IsPlaced, Places, Answers, placing, Grows, one_at}
+use Rattle.dstm_tree.proofs.Base.{IsPlaced, Places, Answers, Placing, placing, Grows, one_at}
 use Rattle.dstm_model.specs.declared.reply.Reply.TheVariants as reply
 use Rattle.dstm_tree.proofs.Forks.{not_red, written}
 use Rattle.dstm_tree.proofs.Sizes.{size_all}
@@ -35,25 +35,31 @@ length-with_item key value (e ∷ es) absent =
 
 -- ---- the map after
 
-ascends-if : (b : Bool) (key value : ℕ) (es : List (ℕ × ℕ)) → key < KEY_LIMIT → Ascends 0 KEY_LIMIT es →
-    Ascends 0 KEY_LIMIT (if b then with_item key value es else es)
-ascends-if true key value es below h = ascends-with 0 KEY_LIMIT key value es (omega arith) below h
-ascends-if false key value es below h = h
+ascends-if : (b : Bool) (limit key value : ℕ) (es : List (ℕ × ℕ)) → key < limit → Ascends 0 limit es →
+    Ascends 0 limit (if b then with_item key value es else es)
+ascends-if true limit key value es below h = ascends-with 0 limit key value es (omega arith) below h
+ascends-if false limit key value es below h = h
+
+-- the reply to a request and the items after it
+abbrev left_by : Request → Region → List (ℕ × ℕ) → Placing
+left_by q region items = placing q.replaces region.nodes q.key q.value items
 
 -- a tree with the items, the nodes and the chain of one that the key was added to is the tree after
-grown_tree : (layout : Layout) (q : Request) (before after : List Val) (store : Store) (t : IsTree layout before store)
-    {u v : Tree} {rest : List ℕ} → q.key < KEY_LIMIT → Grows q t.tree t.free v rest → items_of u ≡ items_of v →
-    ((i : ℕ) → count_of i u ≡ count_of i v) → is_red u ≡ false → value_at after (root_of layout) ≡ plain (number_of u) →
-    Stands layout after (number_of u) u → IsFree layout after rest →
-    (reply.Yes ≡ (placing q store).reply) × IsTree layout after (placing q store).store
-grown_tree layout q before after store t {u} {v} {rest} below grows same_items same_counts black root stands chain =
-    let once : (i : ℕ) → 0 < i → i ≤ layout.tree → count_of i u + free_count i rest ≡ 1 =
+grown_tree : {limit : ℕ} (region : Region) (q : Request) (before after : List Val) (items : List (ℕ × ℕ))
+    (t : HasItems limit region before items) {u v : Tree} {rest : List ℕ} → q.key < limit →
+    Grows q t.tree t.free v rest → items_of u ≡ items_of v → ((i : ℕ) → count_of i u ≡ count_of i v) →
+    is_red u ≡ false → value_at after (root_of region) ≡ plain (number_of u) →
+    Stands region after (number_of u) u → IsFree region after rest →
+    (reply.Yes ≡ (left_by q region items).reply) × HasItems limit region after (left_by q region items).items
+grown_tree {limit} region q before after all t {u} {v} {rest} below grows same_items same_counts black root stands
+    chain =
+    let once : (i : ℕ) → 0 < i → i ≤ region.nodes → count_of i u + free_count i rest ≡ 1 =
     λ i least most. omega (arith, same_counts i, grows.counts i, t.once i least most) in
     let items = same_items ∙ grows.items in
     let absent = ap (value_of q.key) t.items ∙ grows.absent in
-    let size = size_all layout after u rest stands.nodes chain.chain once in
+    let size = size_all region after u rest stands.nodes chain.chain once in
     let longer = ap length items ∙ length-with_item q.key q.value (items_of t.tree) grows.absent in
-    let room = ne_eqb (length store.items) store.layout.tree (λ full. omega (arith, ap length t.items)) in
+    let room = ne_eqb (length all) region.nodes (λ full. omega (arith, ap length t.items)) in
     rw (absent, room) (
       refl,
       record {
@@ -65,57 +71,57 @@ grown_tree layout q before after store t {u} {v} {rest} below grows same_items s
         chain = chain.chain;
         once = once;
         red_black = record {
-          order = ordered 0 KEY_LIMIT u (rw items (ascends-with 0 KEY_LIMIT q.key q.value _ (omega arith) below
-              (ascends 0 KEY_LIMIT t.tree t.red_black.order)));
+          order = ordered 0 limit u (rw items (ascends-with 0 limit q.key q.value _ (omega arith) below
+              (ascends 0 limit t.tree t.red_black.order)));
           black = black;
           balanced = stands.balanced;
         };
         items = ap (with_item q.key q.value) t.items ∙ sym items;
-        capacity = t.capacity;
       },
     )
 
 -- ---- the root was read, and the key placed below it
 
 -- a key can be placed in the whole tree
-unfoldable can_place : (layout : Layout) (map : List Val) (store : Store) (t : IsTree layout map store) →
-    CanPlace layout map (number_of t.tree) layout.tree
+unfoldable can_place : {limit : ℕ} {region : Region} {map : List Val} {items : List (ℕ × ℕ)}
+    (t : HasItems limit region map items) → CanPlace region map (number_of t.tree) region.nodes
 unfolding all_of
-can_place layout map store t = record {
-  sub = all_of layout map store t;
+can_place t = record {
+  sub = all_of t;
   free = t.free;
   is_free = record { unused = t.unused; chain = t.chain };
   once = λ i least most. omega (arith, t.once i least most);
 }
 
-pub can-root : {layout : Layout} {root : ℕ} {before mid : List Val} (store : Store) → IsTree layout before store →
-    ReadsRoot layout root before mid → CanPlace layout mid root layout.tree
-can-root {layout} {before} store t read = rw (read.same, ← read.is store t) (can_place layout before store t)
+pub can-root : {limit : ℕ} {region : Region} {root : ℕ} {before mid : List Val} (items : List (ℕ × ℕ)) →
+    HasItems limit region before items → ReadsRoot region root before mid → CanPlace region mid root region.nodes
+can-root {limit} items t read = rw (read.same, ← read.is limit items t) (can_place t)
 
-placed_at_root : {layout : Layout} (q : Request) {root : ℕ} (placed : Placed) {before mid : List Val}
-    (after : List Val) (store : Store) (t : IsTree layout before store) → ReadsRoot layout root before mid →
-    Places layout q root layout.tree placed mid after → IsPlaced layout placed q t.tree t.free before after
+placed_at_root : {limit : ℕ} {region : Region} (q : Request) {root : ℕ} (placed : Placed) {before mid : List Val}
+    (after : List Val) (items : List (ℕ × ℕ)) (t : HasItems limit region before items) →
+    ReadsRoot region root before mid → Places region q root region.nodes placed mid after →
+    IsPlaced region placed q t.tree t.free before after
 unfolding can_place all_of
-placed_at_root {layout} q placed {before} after store t read does =
-    (rw (read.same, ← read.is store t) at does) (can_place layout before store t)
+placed_at_root {limit} q placed after items t read does =
+    (rw (read.same, ← read.is limit items t) at does) (can_place t)
 
-pub answers-full : {layout : Layout} (q : Request) {root : ℕ} {before mid after : List Val} →
-    ReadsRoot layout root before mid → Places layout q root layout.tree Full mid after →
-    Answers layout q reply.Full before after
-answers-full {layout} q {before} {after} read does store t =
-    let h = placed_at_root q Full after store t read does in
-    let size = size_all layout before t.tree t.free t.nodes t.chain t.once in
+pub answers-full : {region : Region} (q : Request) {root : ℕ} {before mid after : List Val} →
+    ReadsRoot region root before mid → Places region q root region.nodes Full mid after →
+    Answers region q reply.Full before after
+answers-full {region} q {before} {after} read does limit items below t =
+    let h = placed_at_root q Full after items t read does in
+    let size = size_all region before t.tree t.free t.nodes t.chain t.once in
     let absent = ap (value_of q.key) t.items ∙ h.absent in
-    let full = eq-eqb (length store.items) store.layout.tree (omega (arith, ap length t.items, ap length h.none)) in
+    let full = eq-eqb (length items) region.nodes (omega (arith, ap length t.items, ap length h.none)) in
     rw (absent, full) (refl, rw h.same t)
 
-pub answers-found : {layout : Layout} (q : Request) {root : ℕ} {before mid after : List Val} → q.key < KEY_LIMIT →
-    ReadsRoot layout root before mid → Places layout q root layout.tree Found mid after →
-    Answers layout q reply.No before after
-answers-found q {after} below read does store t =
-    let h = placed_at_root q Found after store t read does in
+pub answers-found : {region : Region} (q : Request) {root : ℕ} {before mid after : List Val} →
+    ReadsRoot region root before mid → Places region q root region.nodes Found mid after →
+    Answers region q reply.No before after
+answers-found q {after} read does limit items below t =
+    let h = placed_at_root q Found after items t read does in
     let with = with_item q.key q.value in
-    let present : IsSome (value_of q.key store.items) = rw t.items h.present in
+    let present : IsSome (value_of q.key items) = rw t.items h.present in
     rw present (
       refl,
       record {
@@ -127,56 +133,55 @@ answers-found q {after} below read does store t =
         chain = h.keeps.chain.chain;
         once = λ i least most. omega (arith, t.once i least most, h.counts i);
         red_black = record {
-          order = ordered 0 KEY_LIMIT h.tree (rw h.items
-              (ascends-if q.replaces q.key q.value _ below (ascends 0 KEY_LIMIT t.tree t.red_black.order)));
+          order = ordered 0 limit h.tree (rw h.items
+              (ascends-if q.replaces limit q.key q.value _ below (ascends 0 limit t.tree t.red_black.order)));
           black = h.colour ∙ t.red_black.black;
           balanced = h.stands.balanced;
         };
         items = ap (λ xs. if q.replaces then with xs else xs) t.items ∙ sym h.items;
-        capacity = t.capacity;
       },
     )
 
-pub answers-added : {layout : Layout} (q : Request) {root : ℕ} {before mid after : List Val} → q.key < KEY_LIMIT →
-    ReadsRoot layout root before mid → Places layout q root layout.tree Added mid after →
-    Answers layout q reply.Yes before after
-answers-added {layout} q {before} {after} below read does store t =
-    let h = placed_at_root q Added after store t read does in
-    grown_tree layout q before after store t below h.grows refl (λ i. refl)
+pub answers-added : {region : Region} (q : Request) {root : ℕ} {before mid after : List Val} →
+    ReadsRoot region root before mid → Places region q root region.nodes Added mid after →
+    Answers region q reply.Yes before after
+answers-added {region} q {before} {after} read does limit items below t =
+    let h = placed_at_root q Added after items t read does in
+    grown_tree region q before after items t below h.grows refl (λ i. refl)
     (not_red h.tree t.tree h.colour t.red_black.black) (h.keeps.root ∙ t.root ∙ ap plain (sym h.stands.root))
     (record { root = refl; nodes = h.stands.nodes; balanced = h.stands.balanced }) h.keeps.chain
 
 -- a new root, which is made black
-pub answers-root : {layout : Layout} (q : Request) {root : ℕ} (x : Node) {before mid two one after : List Val} →
-    q.key < KEY_LIMIT → x.number ≤ layout.tree → ReadsRoot layout root before mid →
-    Places layout q root layout.tree (Root x) mid two →
-    Sets (object_of layout x.number) (val_of (with_red false x)) two one →
-    Sets (root_of layout) (plain x.number) one after → Answers layout q reply.Yes before after
-answers-root {layout} q x {before} {two} {one} {after} below in_x read does set_x set_root store t =
-    let h = placed_at_root q (Root x) two store t read does in
+pub answers-root : {region : Region} (q : Request) {root : ℕ} (x : Node) {before mid two one after : List Val} →
+    x.number ≤ region.nodes → ReadsRoot region root before mid →
+    Places region q root region.nodes (Root x) mid two →
+    Sets (object_of region x.number) (val_of (with_red false x)) two one →
+    Sets (root_of region) (plain x.number) one after → Answers region q reply.Yes before after
+answers-root {region} q x {before} {two} {one} {after} in_x read does set_x set_root limit items below t =
+    let h = placed_at_root q (Root x) two items t read does in
     let x' = with_red false x in
     let u = sided Left x' h.near h.far in
-    let once : (i : ℕ) → 0 < i → i ≤ layout.tree →
+    let once : (i : ℕ) → 0 < i → i ≤ region.nodes →
     one_at x.number i + count_of i h.near + count_of i h.far + free_count i h.rest ≤ 1 =
     λ i least most. omega (arith, h.grows.counts i, t.once i least most) in
-    let still : (i : ℕ) → value_at after (object_of layout i) ≡ value_at one (object_of layout i) =
-    λ i. set_root.others (object_of layout i) (λ e. omega arith) in
+    let still : (i : ℕ) → value_at after (object_of region i) ≡ value_at one (object_of region i) =
+    λ i. set_root.others (object_of region i) (λ e. omega arith) in
     let stands = written Left x' h.number in_x set_x h.near_stands h.far_stands
     (λ i least most. omega (arith, once i least most)) h.heights (λ e. absurd (cc e)) in
-    let chain = IsFree-kept (wrote layout x.number (val_of x') two one h.number set_x)
+    let chain = IsFree-kept (wrote region x.number (val_of x') two one h.number set_x)
     (λ i least most some. omega (arith, once i least most)) h.keeps.chain in
-    grown_tree layout q before after store t {u = u} below h.grows refl (λ i. refl) refl set_root.is (record {
+    grown_tree region q before after items t {u = u} below h.grows refl (λ i. refl) refl set_root.is (record {
       root = refl;
-      nodes = Holds-kept layout one after u (λ i least most some. still i) stands.nodes;
+      nodes = Holds-kept region one after u (λ i least most some. still i) stands.nodes;
       balanced = stands.balanced;
     }) (record {
-      unused = set_root.others (free_of layout) (λ e. omega arith) ∙ chain.unused;
-      chain = IsFreeChain-kept layout one after h.rest (λ i least most some. still i) chain.chain;
+      unused = set_root.others (free_of region) (λ e. omega arith) ∙ chain.unused;
+      chain = IsFreeChain-kept region one after h.rest (λ i least most some. still i) chain.chain;
     })
 
 -- at a black root there are no two red nodes one over the other
-pub no-pair : {layout : Layout} (q : Request) {root : ℕ} {placed : Placed} (x y : Node) {before mid : List Val}
-    (after : List Val) (store : Store) → IsTree layout before store → placed ≡ Pair x y →
-    ReadsRoot layout root before mid → Places layout q root layout.tree placed mid after → ⊥
-no-pair q x y after store t is read does =
-    cc ((placed_at_root q (Pair x y) after store t read (rw is at does)).was_red, t.red_black.black)
+pub no-pair : {limit : ℕ} {region : Region} (q : Request) {root : ℕ} {placed : Placed} (x y : Node)
+    {before mid : List Val} (after : List Val) (items : List (ℕ × ℕ)) → HasItems limit region before items → placed ≡ Pair x y →
+    ReadsRoot region root before mid → Places region q root region.nodes placed mid after → ⊥
+no-pair q x y after items t is read does =
+    cc ((placed_at_root q (Pair x y) after items t read (rw is at does)).was_red, t.red_black.black)

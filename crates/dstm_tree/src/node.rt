@@ -8,7 +8,7 @@ use dstm_model::Val;
 /// A node of the tree, as it is read and written.
 #[derive(Clone, Copy, Debug, PartialEq, Eq)]
 pub struct Node {
-    /// From 1 up to the layout's number of nodes.
+    /// From 1 up to the region's number of nodes.
     pub number: u16,
     pub red: bool,
     pub key: u32,

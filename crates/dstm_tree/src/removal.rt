@@ -1,63 +1,58 @@
-ghost use Rattle.std.specs.Prelude.{◌≡◌, ◌<◌, ◌≤◌, List, None, IfOk};
+ghost use Rattle.std.specs.Prelude.{◌≡◌, ◌≢◌, ◌<◌, ◌≤◌, List, None, IfOk};
 ghost use Rattle.dstm_model.specs.declared.value.Val.{Val};
-ghost use Rattle.dstm_model.specs.Layout.{IsValid, FitsLayout};
-ghost use Rattle.dstm_model.specs.Objects.{objects_of};
 ghost use Rattle.dstm_mem.specs.Memory.{with_set};
-ghost use Rattle.dstm_mem.specs.Operations.{IsReady};
-ghost use Rattle.dstm_mem.specs.Operates.{Applies};
-ghost use Rattle.dstm_tree.specs.Objects.{IsTree};
-ghost use Rattle.dstm_tree.specs.Steps.{IsOfTree, IsOpen, Steps};
+ghost use Rattle.dstm_tree.specs.Steps.{IsOpen, IsReadyIn, Steps};
+ghost use Rattle.dstm_tree.specs.Items.{TakesOut};
 ghost use Rattle.dstm_tree.specs.Node.{FitsNode, Subtree, IsRead};
 ghost use Rattle.dstm_tree.specs.Remove.{GivesBack, Hoists, NamesRoot, RemovesRoot, RemovesIf, TakesLeast};
 
 use crate::balance::{Cut, close};
 use crate::cells::{
-    free_object, name, node_object, read, read_node, read_root, root_object, write, write_node,
+    free_object, name, node_object_in, read, read_node, read_root, write, write_node,
 };
 use crate::node::Node;
 use crate::side::Side;
 use dstm_mem::Mem;
-use dstm_model::{Layout, Op, Reply, Which};
+use dstm_model::Reply;
+use dstm_region::Region;
 
-/// Takes a key out, if it is there. Its node becomes the first free one. Nothing is set where the key is absent.
-pub fn remove<M: Mem>(mem: &mut M, layout: &Layout, key: u32) -> Result<Reply, M::Err>
-    requires valid { IsValid layout.now }
-    requires fits { FitsLayout layout.now (Op.Remove Which.Tree key) }
-    requires ready { IsReady M.Mem (objects_of layout.now) (IsTree layout.now) mem.old }
-
-    ensures { Applies M.Mem (IsOfTree layout.now) (IsTree layout.now) (Op.Remove Which.Tree key) mem.old mem.new result }
+/// Takes a key out of a region's tree, if it is there. Its node becomes the first free one. Nothing is set where the
+/// key is absent.
+pub fn remove_in<M: Mem>(mem: &mut M, region: Region, key: u32) -> Result<Reply, M::Err>
+    requires { IsReadyIn M.Mem region mem.old }
+    ensures { Steps M.Mem region (λ reply. reply ≢ Reply.Yes) (TakesOut region key) mem.old mem.new result }
 {
-    let root = read_root(mem, layout)?;
-    let found = remove_below(mem, layout, root, key, layout.tree)?;
+    let root = read_root(mem, region)?;
+    let found = remove_below(mem, region, root, key, region.nodes)?;
     let Some(removed) = found else {
         return Ok(Reply::No);
     };
-    give_back(mem, layout, removed.number)?;
-    update_root(mem, layout, root, removed.cut.root)?;
+    give_back(mem, region, removed.number)?;
+    update_root(mem, region, root, removed.cut.root)?;
     Ok(Reply::Yes)
 }
 
 // Puts a node in front of the free chain.
-fn give_back<M: Mem>(mem: &mut M, layout: &Layout, number: u16) -> Result<(), M::Err>
-    requires number { (0 < number) × (number ≤ layout.now.tree) }
-    requires ready { IsOpen M.Mem layout.now mem.old }
-    ensures { Steps M.Mem layout.now (λ done. ⊥) (λ done. GivesBack layout.now number) mem.old mem.new result }
+fn give_back<M: Mem>(mem: &mut M, region: Region, number: u16) -> Result<(), M::Err>
+    requires number { (0 < number) × (number ≤ region.nodes) }
+    requires ready { IsOpen M.Mem region mem.old }
+    ensures { Steps M.Mem region (λ done. ⊥) (λ done. GivesBack region number) mem.old mem.new result }
 {
-    let first = read(mem, layout, free_object(layout))?;
-    write(mem, layout, node_object(layout, number), first)?;
-    write(mem, layout, free_object(layout), name(number))?;
+    let first = read(mem, region, free_object(region))?;
+    write(mem, region, node_object_in(region, number), first)?;
+    write(mem, region, free_object(region), name(number))?;
     Ok(())
 }
 
 // Names the root, unless it is named as it is to be.
-fn update_root<M: Mem>(mem: &mut M, layout: &Layout, held: u16, root: u16) -> Result<(), M::Err>
-    requires { IsOpen M.Mem layout.now mem.old }
-    ensures { Steps M.Mem layout.now (λ done. ⊥) (λ done. NamesRoot layout.now held root) mem.old mem.new result }
+fn update_root<M: Mem>(mem: &mut M, region: Region, held: u16, root: u16) -> Result<(), M::Err>
+    requires { IsOpen M.Mem region mem.old }
+    ensures { Steps M.Mem region (λ done. ⊥) (λ done. NamesRoot region held root) mem.old mem.new result }
 {
     if root == held {
         return Ok(());
     }
-    write(mem, layout, root_object(layout), name(root))?;
+    write(mem, region, region.first, name(root))?;
     Ok(())
 }
 
@@ -76,10 +71,10 @@ pub(crate) struct Removed {
 }
 
 // The only child of a node of this colour takes the node's place.
-fn hoist<M: Mem>(mem: &mut M, layout: &Layout, child: u16, red: bool) -> Result<Cut, M::Err>
-    requires within { child ≤ layout.now.tree }
-    requires ready { IsOpen M.Mem layout.now mem.old }
-    ensures { Steps M.Mem layout.now (λ cut. ⊥) (Hoists layout.now child red) mem.old mem.new result }
+fn hoist<M: Mem>(mem: &mut M, region: Region, child: u16, red: bool) -> Result<Cut, M::Err>
+    requires within { child ≤ region.nodes }
+    requires ready { IsOpen M.Mem region mem.old }
+    ensures { Steps M.Mem region (λ cut. ⊥) (Hoists region child red) mem.old mem.new result }
 {
     if child == 0 {
         return Ok(Cut {
@@ -87,8 +82,8 @@ fn hoist<M: Mem>(mem: &mut M, layout: &Layout, child: u16, red: bool) -> Result<
             fell: !red,
         });
     }
-    let node = read_node(mem, layout, child)?;
-    write_node(mem, layout, node.with_red(false))?;
+    let node = read_node(mem, region, child)?;
+    write_node(mem, region, node.with_red(false))?;
     Ok(Cut {
         root: child,
         fell: false,
@@ -97,23 +92,23 @@ fn hoist<M: Mem>(mem: &mut M, layout: &Layout, child: u16, red: bool) -> Result<
 
 // Takes the node with the least key out of the subtree whose root is numbered `at`, and which has at most
 // `depth` nodes. The node itself is left as it is.
-fn take_least<M: Mem>(mem: &mut M, layout: &Layout, at: u16, depth: u32) -> Result<Least, M::Err>
+fn take_least<M: Mem>(mem: &mut M, region: Region, at: u16, depth: u32) -> Result<Least, M::Err>
     requires some { 0 < at }
-    requires within { at ≤ layout.now.tree }
-    requires ready { IsOpen M.Mem layout.now mem.old }
+    requires within { at ≤ region.nodes }
+    requires ready { IsOpen M.Mem region mem.old }
     requires lawful { (map : List Val) → M.Admits mem.old map →
-        Subtree layout.now (with_set map (M.written mem.old)) at depth }
-    ensures steps { Steps M.Mem layout.now (λ least. ⊥) (TakesLeast layout.now at depth) mem.old mem.new result }
-    ensures fits { IfOk result (λ least. FitsNode layout.now least.node) }
+        Subtree region (with_set map (M.written mem.old)) at depth }
+    ensures steps { Steps M.Mem region (λ least. ⊥) (TakesLeast region at depth) mem.old mem.new result }
+    ensures fits { IfOk result (λ least. FitsNode region least.node) }
 {
-    let node = read_node(mem, layout, at)?;
+    let node = read_node(mem, region, at)?;
     if node.left == 0 {
-        let cut = hoist(mem, layout, node.right, node.red)?;
+        let cut = hoist(mem, region, node.right, node.red)?;
         return Ok(Least { node, cut });
     }
-    let below = take_least(mem, layout, node.left, depth - 1)?;
+    let below = take_least(mem, region, node.left, depth - 1)?;
     let parent = node.with_child(Side::Left, below.cut.root);
-    let cut = close(mem, layout, Side::Left, node, parent, below.cut.fell)?;
+    let cut = close(mem, region, Side::Left, node, parent, below.cut.fell)?;
     Ok(Least {
         node: below.node,
         cut,
@@ -124,33 +119,33 @@ fn take_least<M: Mem>(mem: &mut M, layout: &Layout, at: u16, depth: u32) -> Resu
 // key, and the node of that one is taken out.
 fn remove_root<M: Mem>(
     mem: &mut M,
-    layout: &Layout,
+    region: Region,
     node: Node,
     depth: u32,
 ) -> Result<Removed, M::Err>
     requires some { 0 < node.number }
-    requires fits { FitsNode layout.now node }
-    requires ready { IsOpen M.Mem layout.now mem.old }
+    requires fits { FitsNode region node }
+    requires ready { IsOpen M.Mem region mem.old }
     requires lawful { (map : List Val) → M.Admits mem.old map →
         let before = with_set map (M.written mem.old) in
-        Subtree layout.now before node.number depth × IsRead layout.now node.number node before before }
-    ensures { Steps M.Mem layout.now (λ removed. ⊥) (RemovesRoot layout.now node depth) mem.old mem.new result }
+        Subtree region before node.number depth × IsRead region node.number node before before }
+    ensures { Steps M.Mem region (λ removed. ⊥) (RemovesRoot region node depth) mem.old mem.new result }
 {
     if let Some(side) = node.missing() {
-        let cut = hoist(mem, layout, node.child(side.other()), node.red)?;
+        let cut = hoist(mem, region, node.child(side.other()), node.red)?;
         return Ok(Removed {
             number: node.number,
             cut,
         });
     }
-    let least = take_least(mem, layout, node.right, depth - 1)?;
+    let least = take_least(mem, region, node.right, depth - 1)?;
     let next = Node {
         key: least.node.key,
         value: least.node.value,
         ..node
     };
     let parent = next.with_child(Side::Right, least.cut.root);
-    let cut = close(mem, layout, Side::Right, node, parent, least.cut.fell)?;
+    let cut = close(mem, region, Side::Right, node, parent, least.cut.fell)?;
     Ok(Removed {
         number: least.node.number,
         cut,
@@ -160,33 +155,33 @@ fn remove_root<M: Mem>(
 // Takes a key out of the subtree whose root is numbered `at`, and which has at most `depth` nodes.
 fn remove_below<M: Mem>(
     mem: &mut M,
-    layout: &Layout,
+    region: Region,
     at: u16,
     key: u32,
     depth: u32,
 ) -> Result<Option<Removed>, M::Err>
-    requires within { at ≤ layout.now.tree }
-    requires ready { IsOpen M.Mem layout.now mem.old }
+    requires within { at ≤ region.nodes }
+    requires ready { IsOpen M.Mem region mem.old }
     requires lawful { (map : List Val) → M.Admits mem.old map →
-        Subtree layout.now (with_set map (M.written mem.old)) at depth }
-    ensures { Steps M.Mem layout.now (λ found. found ≡ None) (RemovesIf layout.now key at depth)
+        Subtree region (with_set map (M.written mem.old)) at depth }
+    ensures { Steps M.Mem region (λ found. found ≡ None) (RemovesIf region key at depth)
         mem.old mem.new result }
 {
     if at == 0 {
         return Ok(None);
     }
-    let node = read_node(mem, layout, at)?;
+    let node = read_node(mem, region, at)?;
     if key == node.key {
-        let removed = remove_root(mem, layout, node, depth)?;
+        let removed = remove_root(mem, region, node, depth)?;
         return Ok(Some(removed));
     }
     let side = Side::toward(key, node.key);
-    let below = remove_below(mem, layout, node.child(side), key, depth - 1)?;
+    let below = remove_below(mem, region, node.child(side), key, depth - 1)?;
     let Some(removed) = below else {
         return Ok(None);
     };
     let parent = node.with_child(side, removed.cut.root);
-    let cut = close(mem, layout, side, node, parent, removed.cut.fell)?;
+    let cut = close(mem, region, side, node, parent, removed.cut.fell)?;
     Ok(Some(Removed {
         number: removed.number,
         cut,

@@ -1,15 +1,14 @@
 use Rattle.std.specs.Prelude.{Err}
-use Rattle.std.proofs.Common.{◌≡◌, ◌≤◌, length, rules, arith, refl, sym, ◌∙◌, ap, subst}
-use Rattle.dstm_model.specs.declared.op.Which.TheVariants as which
-use Rattle.dstm_model.specs.declared.op.Op.TheVariants.{Remove}
+use Rattle.std.proofs.Common.{◌≡◌, ◌+◌, ◌≤◌, length, rules, arith, refl, sym, ◌∙◌, ap, subst}
 use Rattle.dstm_model.specs.declared.reply.Reply.TheVariants.{Yes}
 use Rattle.dstm_model.specs.Map.{value_at}
-use Rattle.dstm_model.specs.Objects.{Does, list_begin, tree_begin, free_object}
+use Rattle.dstm_model.specs.Objects.{free_object}
 use Rattle.dstm_mem.specs.Memory.{with_set}
 use Rattle.dstm_mem.proofs.Operations.{only_reads-none, opens_to_set-none}
 use Rattle.dstm_mem.proofs.Operating.{untouched-none, operates-then, operates-ended}
 use Rattle.dstm_mem.proofs.WithSet.{length-with_set}
-use Rattle.dstm_list.specs.List.{IsList, IsOfList}
+use Rattle.dstm_region.specs.Region.{IsInside, size_of}
+use Rattle.dstm_list.specs.Edits.{TakesOut}
 use Rattle.dstm_list.proofs.Operations.{does-no_remove, does-remove}
 use Rattle.dstm_list.proofs.Steps.{next_within, node-of_list}
 use Rattle.dstm_list.proofs.Walked.{operates-at, set-known}
@@ -23,52 +22,54 @@ returns-in_default-clause-applies g c =
       outside = λ o out. untouched-none M c.args.mem.now o;
       marks = λ all. opens_to_set-none M c.args.mem.now;
       quiet = λ look. only_reads-none M c.args.mem.now;
-      does = λ map admitted. does-no_remove c.args.key c.args.place (c.requires.ready.found map admitted) c.in_default.is;
+      does = λ map admitted. does-no_remove c.args.key c.args.place (c.requires.ready.found map admitted)
+          c.in_default.is;
     }
 
-pub replace-requires-2-clause-list : goal.replace-requires-2-clause-list
-replace-requires-2-clause-list g c =
-    let layout = c.args.layout.now in
+pub replace-requires-2-clause-inside : goal.replace-requires-2-clause-inside
+replace-requires-2-clause-inside g c =
+    let region = c.args.region in
     let (map, admitted) = c.requires.ready.admits in
-    let (store, list) = c.requires.ready.ready.lawful map admitted in
-    subst (IsOfList layout) (sym c.node_object-object.ensures)
-    (node-of_list layout c.args.place.before.next c.requires.fits.0
-    (next_within list (c.requires.ready.found map admitted store list).stands))
+    let (held, list) = c.requires.ready.ready.lawful map admitted in
+    subst (IsInside region) (sym c.node_object_in-object.ensures)
+    (node-of_list region c.args.place.before.next c.requires.fits.some
+    (next_within list (c.requires.ready.found map admitted held list).stands))
 
 pub returns-clause-applies : goal.returns-clause-applies
 returns-clause-applies g c =
     let M = g.M.Mem in
-    let layout = c.args.layout.now in
-    let begin = list_begin layout in
+    let region = c.args.region in
+    let begin = region.first in
     let start = c.args.mem.now in
     let place = c.args.place in
     let found = c.in-Some.node in
-    let free_is : c.node_object-free.result ≡ free_object begin = omega (arith, c.node_object-free.ensures) in
+    let free_is : c.node_object_in-free.result ≡ free_object begin = omega (arith, c.node_object_in-free.ensures) in
     let freed = operates-then c.in_ok-rest.ensures.sets c.in_ok-replace.ensures.sets in
     operates-at (operates-then freed c.in_ok-replace-2.ensures.sets) (λ other. absurd (other refl))
     (λ all. ((tt, tt), tt)) (λ map admitted h.
     let before = with_set map (M.written start) in
     let size = g.met.M.Mem.admitted_length start map admitted in
-    let in_map : tree_begin layout ≤ length before =
+    let in_map : region.first + size_of region ≤ length before =
     omega (arith, size, c.requires.ready.ready.objects, length-with_set map (M.written start)) in
     let had = ap (value_at before) (sym free_is) ∙ h.first.first.had in
     let one = set-known h.first.first.set refl free_is c.value.ensures in
-    let two = set-known h.first.second.set one c.node_object-object.ensures refl in
+    let two = set-known h.first.second.set one c.node_object_in-object.ensures refl in
     let three = set-known h.second.set two refl c.value-2.ensures in
-    subst (λ after. Does (IsList layout) (Remove which.List c.args.key) before after Yes) (sym three)
-    (does-remove c.args.key place found c.in_ok-rest.rest c.requires.fits.0 in_map (c.requires.ready.found map admitted)
+    subst (λ after. TakesOut region c.args.key Yes before after) (sym three)
+    (does-remove c.args.key place found c.in_ok-rest.rest c.requires.fits.some in_map (c.requires.ready.found map
+    admitted)
     c.in-Some.is c.requires.ready.link had))
 
 pub returns-clause-few : goal.returns-clause-few
 returns-clause-few g c =
-    let free_is : c.node_object-free.result ≡ free_object (list_begin c.args.layout.now) =
-    omega (arith, c.node_object-free.ensures) in (
+    let free_is : c.node_object_in-free.result ≡ free_object (c.args.region.first) =
+    omega (arith, c.node_object_in-free.ensures) in (
       c.args.place.link,
       (
         c.args.place.before.next,
         λ p not_link not_node not_free.
             c.in_ok-replace-2.ensures.written.others p not_link
-            ∙ c.in_ok-replace.ensures.written.others p (λ e. not_node (e ∙ c.node_object-object.ensures))
+            ∙ c.in_ok-replace.ensures.written.others p (λ e. not_node (e ∙ c.node_object_in-object.ensures))
             ∙ c.in_ok-rest.ensures.written.others p (λ e. not_free (e ∙ free_is)),
       ),
     )

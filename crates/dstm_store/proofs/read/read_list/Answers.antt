@@ -10,7 +10,7 @@ use Rattle.dstm_store.proofs.read.read_list.Goals as goal
 
 pub returns-then-layout-eq0 : goal.returns-then-layout-eq0
 returns-then-layout-eq0 c store stands =
-    c.new-keys.ensures.items ∙ sym (no_keys c.if-layout-eq0.true stands.list)
+    c.new-keys.ensures.items ∙ sym (no_keys c.if-layout-eq0.true stands.list.holds)
 
 pub loop-step-init : goal.loop-step-init
 loop-step-init c =
@@ -23,13 +23,13 @@ loop-step-init c =
     record {
       within = walk-within (begun c.requires.lawful.0 c.requires.lawful.1);
       walk = λ store stands.
-          subst (λ (keys : List ℕ). Walk (list_begin layout) layout.list values keys at 0 stands.list.cells)
+          subst (λ (keys : List ℕ). Walk (list_begin layout) layout.list values keys at 0 stands.list.holds.cells)
           (sym c.new-keys.ensures.items) (begun store stands);
     }
 
 pub returns-then-at-eq0 : goal.returns-then-at-eq0
 returns-then-at-eq0 c store stands =
-    walk-end (c.loop-step.invariant.walk store stands) c.if-at-eq0.true ∙ sym stands.list.keys
+    walk-end (c.loop-step.invariant.walk store stands) c.if-at-eq0.true ∙ sym stands.list.holds.keys
 
 pub loop-step-preserved : goal.loop-step-preserved
 loop-step-preserved c =
@@ -39,16 +39,17 @@ loop-step-preserved c =
     let object = ap (value_at values) c.node_object-object.ensures in
     let goes_on = λ (store : Store) (stands : StandsFor layout values store).
     walk-next (list_begin layout) layout.list values c.loop-step.keys.items c.loop-step.at c.loop-step._step
-    stands.list.cells node (omega (arith, c.requires.valid.list)) (c.loop-step.invariant.walk store stands)
+    stands.list.holds.cells node (omega (arith, c.requires.valid.list)) (c.loop-step.invariant.walk store stands)
     c.if-at-eq0.false (c.of-node.ensures.key ∙ ap key_of object) (c.of-node.ensures.next ∙ ap next_of object) in
     record {
       within = walk-within (goes_on c.requires.lawful.0 c.requires.lawful.1);
       walk = λ store stands.
           subst (λ (keys : List ℕ). Walk (list_begin layout) layout.list values keys node.next
-          (c.loop-step._step + 1) stands.list.cells)
+          (c.loop-step._step + 1) stands.list.holds.cells)
           (sym c.in_ok-push.ensures.items) (goes_on store stands);
     }
 
 pub returns : goal.returns
 returns c store stands =
-    walk-all (c.loop-step.invariant.walk store stands) (omega (arith, c.loop-step-test.false)) ∙ sym stands.list.keys
+    walk-all (c.loop-step.invariant.walk store stands) (omega (arith, c.loop-step-test.false)) ∙ sym
+    stands.list.holds.keys

@@ -9,5 +9,5 @@ abbrev pub invariant-loop-step : goal.invariant-loop-step
 invariant-loop-step l = record {
   within : l.at ≤ l.layout.list;
   walk : (store : Store) → (stands : StandsFor l.layout l.values store) →
-      Walk (list_begin l.layout) l.layout.list l.values l.keys.items l.at l._step stands.list.cells;
+      Walk (list_begin l.layout) l.layout.list l.values l.keys.items l.at l._step stands.list.holds.cells;
 }

@@ -20,4 +20,4 @@ returns c store stands =
     c.in_ok-read_below.ensures all
     ∙ ap (λ (items : List Item). items ++ map item_of (items_of all.tree)) c.new-items.ensures.items
     ∙ ap (λ tree. map item_of (items_of tree)) same
-    ∙ ap (map item_of) (sym t.items)
+    ∙ ap (map item_of) (sym t.holds.items)

@@ -10,7 +10,7 @@ returns g c =
     record {
       leads = search rules;
       outside = λ o out.
-          let other = other-outside c.requires.first out in
+          let other = other-outside c.args.region c.requires.inside out in
           untouched-then g.M.Mem (untouched-opened g.M.Mem opened.written opened.held opened.opened o other)
           (untouched-set g.M.Mem set.written set.held set.opened o other);
       marks = λ all. search rules;
@@ -19,7 +19,7 @@ returns g c =
         is =
             let size = g.met.M.Mem.admitted_length c.open_write.new.self map ((set.admits map).0 admitted) in
             value_at-with_set map (g.M.Mem.written c.set.new.self) c.args.object
-            (omega (arith, c.requires.objects, c.requires.exists))
+            (omega (arith, c.requires.objects, c.requires.inside.1))
             ∙ ap (λ w. unwrap_or w (value_at map c.args.object)) set.written.value;
         others = λ o other. value_at-same_set map (g.M.Mem.written c.args.mem.now) (g.M.Mem.written c.set.new.self) o
             (set.written.others o other ∙ opened.written o);

@@ -2,6 +2,8 @@ use Rattle.dstm_tree.proofs.Base.{List, arith, sym, subst, Val, LeavesAll}
 use Rattle.dstm_tree.proofs.Attach.{settled}
 use Rattle.dstm_tree.proofs.Placing.{can-below, place-below, place-found, place-replaced}
 use Rattle.dstm_tree.specs.declared.side.Side.TheVariants.{Left}
+use Rattle.dstm_tree.proofs.Forks.{missing_child}
+use Rattle.dstm_tree.proofs.Search.{stands_of}
 use Rattle.dstm_tree.proofs.Walk.{walk}
 use Rattle.dstm_tree.proofs.Stepping.{steps-as, steps-then}
 use Rattle.dstm_tree.proofs.place.+place_below.Goals as goal
@@ -23,6 +25,12 @@ place_below-requires g t c κs within =
         (within.1, (c.requires.key, (omega (arith, c.child.ensures), (w.ready, λ m a. rw c.child.ensures (goes m a))))),
       ),
     )
+
+pub returns-then-at-eq0-clause-steps : goal.returns-then-at-eq0-clause-steps
+returns-then-at-eq0-clause-steps g t c =
+    steps-as c.in_ok-placed.ensures.steps (λ leaves. settled c.args.request c.in_ok-placed.placed leaves)
+    (λ before after placed h.
+    rw (missing_child c.if-at-eq0.true (stands_of h.sub)) (placed h.free h.is_free))
 
 pub returns-then-request-node-clause-steps : goal.returns-then-request-node-clause-steps
 returns-then-request-node-clause-steps g t c =

@@ -13,7 +13,7 @@ returns-then-parent-clause-steps g c =
 
 pub returns-in_ok-write_node-in-Root-2-clause-steps : goal.returns-in_ok-write_node-in-Root-2-clause-steps
 returns-in_ok-write_node-in-Root-2-clause-steps g c =
-    let fits = subst (FitsPlaced c.args.layout.now) c.in-Root.is c.requires.below in
+    let fits = subst (FitsPlaced c.args.region) c.in-Root.is c.requires.below in
     steps-as (steps-then c.in_ok-write_node-in-Root.ensures c.in_ok-write_node-in-Root-2.ensures)
     (λ never. absurd never) (λ before after done q near far free start h way placed.
     attach-hung q h way c.in-Root.child before done.mid after fits.number c.if-parent.false
@@ -23,8 +23,8 @@ pub returns-in_ok-write_node-in-Pair-2-clause-steps : goal.returns-in_ok-write_n
 returns-in_ok-write_node-in-Pair-2-clause-steps g c =
     let side = c.args.side in
     let pair = c.order-in-Pair in
-    let fits = subst (FitsPlaced c.args.layout.now) c.in-Pair.is c.requires.below in
-    let fits_x = on-fits c.args.layout.now side c.in-Pair.lesser c.in-Pair.greater fits.0 fits.1 in
+    let fits = subst (FitsPlaced c.args.region) c.in-Pair.is c.requires.below in
+    let fits_x = on-fits c.args.region side c.in-Pair.lesser c.in-Pair.greater fits.0 fits.1 in
     steps-as (steps-then c.in_ok-write_node-in-Pair.ensures c.in_ok-write_node-in-Pair-2.ensures)
     (λ never. absurd never) (λ before after done q near far free start h way placed.
     rw (c.with_child-in-Pair-2.ensures, c.with_child-top.ensures, c.other-far.ensures)

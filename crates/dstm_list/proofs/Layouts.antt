@@ -1,0 +1,111 @@
+-- What the calls on a layout's list have from those on its region.
+use Rattle.std.proofs.Common.{◌≡◌, ℕ, ◌<◌, ◌==◌, Bool, true, false, List, length, arith, refl, sym, ◌∙◌, ap, subst}
+use Rattle.std.specs.Prelude.{Ok, if◌then◌else◌}
+use Rattle.dstm_model.specs.declared.value.Val.{Val}
+use Rattle.dstm_model.specs.declared.layout.Layout.{Layout}
+use Rattle.dstm_model.specs.declared.op.Which.TheVariants as which
+use Rattle.dstm_model.specs.declared.op.Op.TheVariants.{Insert, Remove, Member}
+use Rattle.dstm_model.specs.declared.reply.Reply.{Reply}
+use Rattle.dstm_model.specs.declared.reply.Reply.TheVariants.{Yes, No, Full}
+use Rattle.dstm_model.specs.Layout.{IsValid}
+use Rattle.dstm_model.specs.Map.{value_at}
+use Rattle.dstm_model.specs.Objects.{objects_of, Does}
+use Rattle.dstm_model.specs.Store.{Store, Outcome, answer, has_key, with_key, opening_store}
+use Rattle.dstm_mem.specs.declared.memory.Mem.{Ghosts}
+use Rattle.dstm_mem.specs.Operations.{IsReady}
+use Rattle.dstm_mem.specs.Operates.{Operates}
+use Rattle.dstm_mem.proofs.Operating.{operates-as}
+use Rattle.dstm_region.specs.declared.region.Region.{Region}
+use Rattle.dstm_region.specs.Region.{IsInside, list_region}
+use Rattle.dstm_region.proofs.Layouts.{list-within}
+use Rattle.dstm_list.specs.List.{FitsList, HasKeys, IsList, IsOfList}
+use Rattle.dstm_list.specs.Edits.{Adding, Adds, TakesOut, Tells, adding}
+use Rattle.dstm_list.specs.Place.{IsReadyIn}
+use Rattle.dstm_list.proofs.Lists.{IsOpening, HasKeys-kept, HasKeys-opening}
+
+-- a list fits in the region of a layout's list, which is within the layout's objects
+pub fits-list : {layout : Layout} → IsValid layout → 0 < layout.list → FitsList (list_region layout)
+fits-list valid declared = record {
+  some = declared;
+  few = omega (arith, valid.list);
+  numbered = omega (arith, valid.accounts);
+}
+
+pub of-list : (layout : Layout) → 0 < layout.list → (o : ℕ) → IsInside (list_region layout) o → IsOfList layout o
+of-list layout declared o inside = (inside.0, omega (arith, inside.1, list-within layout declared))
+
+pub ready-in : {S E : Type 0} {M : Ghosts S E} (layout : Layout) {memory : S} → 0 < layout.list →
+    IsReady M (objects_of layout) (IsList layout) memory → IsReadyIn M (list_region layout) memory
+ready-in layout declared ready = record {
+  objects = omega (arith, ready.objects, list-within layout declared);
+  live = ready.live;
+  lawful = λ map admitted.
+      let (store, list) = ready.lawful map admitted in
+      (store.keys, list.holds);
+}
+
+-- what is done inside the region is done to the layout's list
+pub done-in : {S E : Type 0} {M : Ghosts S E} (layout : Layout) {A B : Type 0} {region : Region} {Q : A → Type 0}
+    {Q' T' : B → Type 0} {R : A → List Val → List Val → Type 0} {R' : B → List Val → List Val → Type 0} {old new : S}
+    {x : A} {y : B} → region ≡ list_region layout → 0 < layout.list →
+    Operates M (IsInside region) Q (λ a. Unit {0}) R old new (Ok x) → (Q' y → Q x) →
+    ((before after : List Val) → R x before after → R' y before after) →
+    Operates M (IsOfList layout) Q' T' R' old new (Ok y)
+done-in {M = M} layout {Q = Q} {R = R} {old = old} {new = new} {x = x} is declared done quiet does =
+    let wider : Operates M (IsOfList layout) Q (λ a. Unit {0}) R old new (Ok x) = record {
+      leads = done.leads;
+      outside = λ o out. done.outside o (λ inside. out (of-list layout declared o (rw is at inside)));
+      marks = done.marks;
+      quiet = done.quiet;
+      does = done.does;
+    } in
+    operates-as wider quiet (λ all. tt) does
+
+-- the choice of a reply with the keys after it is that of a reply with the store after it
+chosen : (layout : Layout) {after : List Val} {reply : Reply} (store : Store) (there full : Bool) (more : List ℕ) →
+    store.layout.list ≡ layout.list →
+    (let added : Adding = if there then record { reply = No; keys = store.keys }
+    else if full then record { reply = Full; keys = store.keys } else record { reply = Yes; keys = more } in
+    (reply ≡ added.reply) × HasKeys (list_region layout) after added.keys) →
+    (let out : Outcome = if there then answer No store
+    else if full then answer Full store else answer Yes (record store { keys = more }) in
+    (reply ≡ out.reply) × IsList layout after out.store)
+chosen layout store true full more capacity h = (h.0, record { holds = h.1; capacity = capacity })
+chosen layout store false true more capacity h = (h.0, record { holds = h.1; capacity = capacity })
+chosen layout store false false more capacity h = (h.0, record { holds = h.1; capacity = capacity })
+
+module _ {layout : Layout} {before after : List Val} where
+  pub inserted : (key : ℕ) {reply : Reply} → Adds (list_region layout) key reply before after →
+      Does (IsList layout) (Insert which.List key) before after reply
+  inserted key {reply} adds store list =
+      chosen layout store (has_key key store.keys) (length store.keys == store.layout.list) (with_key key store.keys)
+      list.capacity (subst (λ n. (reply ≡ (adding n key store.keys).reply)
+      × HasKeys (list_region layout) after (adding n key store.keys).keys) (sym list.capacity)
+      (adds store.keys list.holds))
+
+  pub removed : (key : ℕ) {reply : Reply} → TakesOut (list_region layout) key reply before after →
+      Does (IsList layout) (Remove which.List key) before after reply
+  removed key takes store list =
+      let (same, holds) = takes store.keys list.holds in
+      (same, record { holds = holds; capacity = list.capacity })
+
+  pub told : (key : ℕ) {reply : Reply} → Tells (list_region layout) key reply before after →
+      Does (IsList layout) (Member which.List key) before after reply
+  told key tells store list =
+      let (same, holds) = tells store.keys list.holds in
+      (same, record { holds = holds; capacity = list.capacity })
+
+-- ---- a map in which the list's objects are unchanged, and the opening values
+
+pub list-kept : {layout : Layout} {values : List Val} {store : Store} (after : List Val) (other : Store) →
+    IsList layout values store → other.layout ≡ store.layout → other.keys ≡ store.keys →
+    ((p : ℕ) → IsOfList layout p → value_at after p ≡ value_at values p) → IsList layout after other
+list-kept {layout} after other list layouts keys same = record {
+  holds = rw keys (HasKeys-kept after (λ declared p inside. same p (of-list layout declared p inside)) list.holds);
+  capacity = ap (λ l. l.list) layouts ∙ list.capacity;
+}
+
+pub list-opening : (layout : Layout) (values : List Val) →
+    (0 < layout.list → IsOpening (list_region layout) values) → IsList layout values (opening_store layout)
+list-opening layout values opening =
+    record { holds = HasKeys-opening (list_region layout) values opening; capacity = refl }
