@@ -9,7 +9,7 @@ use Rattle.dstm_report.specs.declared.report.Report.{Report}
 use Rattle.dstm_report.specs.declared.verdict.Verdict.{Verdict}
 use Rattle.dstm_report.specs.declared.verdict.Verdict.TheVariants.{Lawful}
 use Rattle.dstm_report.specs.Lawful.{IsLawful, store_after}
-use Rattle.dstm_jobs.specs.declared.tables.Round.{Round}
+use Rattle.dstm_jobs.specs.Tables.{Round}
 use Rattle.dstm_records.specs.Records.{StandFor}
 use Rattle.dstm_cli.specs.Command.{default_options, demo_text, workload_for, IsDemo}
 

@@ -14,13 +14,13 @@ use Rattle.dstm_io.specs.Sink.{AppendsPart}
 use Rattle.dstm_command.specs.declared.command.Command.{Command}
 use Rattle.dstm_command.specs.declared.command.Command.TheVariants.{Run, Check, Gen, Demo}
 use Rattle.dstm_model.specs.declared.layout.Layout.{Layout}
-use Rattle.dstm_jobs.specs.declared.tables.Round.{Round}
+use Rattle.dstm_jobs.specs.Tables.{Round}
 use Rattle.dstm_records.specs.Records.{AreFirstRounds}
 use Rattle.dstm_records.specs.Running.{IsClosed}
 use Rattle.dstm_records.proofs.First.{first_closed, no_first_rounds}
 use Rattle.dstm_workload.specs.declared.workload.Workload.{Workload}
 use Rattle.dstm_options.specs.declared.options.Options.{Options}
-use Rattle.dstm_jobs.specs.Tells.{SightsAgree}
+use Rattle.dstm_tables.specs.Tells.{SightsAgree}
 use Rattle.dstm_report.specs.declared.verdict.Verdict.{Verdict}
 use Rattle.dstm_report.specs.declared.verdict.Verdict.TheVariants.{Lawful, NotLawful}
 use Rattle.dstm_cli.specs.declared.failure.Failure.{Failure}

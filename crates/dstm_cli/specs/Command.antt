@@ -23,7 +23,7 @@ use Rattle.dstm_report.specs.Text.{report_text}
 use Rattle.dstm_report.specs.Lawful.{IsLawful, Tells}
 use Rattle.dstm_options.specs.declared.options.Engine.TheVariants.{Dstm}
 use Rattle.dstm_options.specs.declared.options.Options.{Options}
-use Rattle.dstm_jobs.specs.declared.tables.Round.{Round}
+use Rattle.dstm_jobs.specs.Tables.{Round}
 use Rattle.dstm_records.specs.Records.{AreFirstRounds, StandFor}
 use Rattle.dstm_cli.specs.declared.failure.Failure.{Failure}
 use Rattle.dstm_cli.specs.declared.failure.Failure.TheVariants.{TooLong, Refused, NoReport, ReportForm}

@@ -7,7 +7,7 @@ use Rattle.dstm_command.specs.declared.command.Command.{Command}
 use Rattle.dstm_cli.specs.declared.failure.Failure.{Failure}
 use Rattle.dstm_cli.specs.declared.failure.Failure.TheVariants.{Usage, ReadFault}
 use Rattle.dstm_cli.specs.declared.failure.Failure.TheVariants.{WriteFault, Memory}
-use Rattle.dstm_jobs.specs.declared.tables.Round.{Round}
+use Rattle.dstm_jobs.specs.Tables.{Round}
 use Rattle.dstm_cli.specs.Command.{reads_input, Refuses, Answers}
 
 -- What happened to the source, to the sink and to the rounds of a command: the bytes left at the one and taken by the other,

@@ -3,7 +3,7 @@ ghost use Rattle.std.specs.Io.KnownBytes.{Appends, Keeps};
 ghost use Rattle.dstm_io.specs.Count.{Rises};
 ghost use Rattle.dstm_io.specs.Sink.{AppendsPart};
 ghost use Rattle.dstm_records.specs.Running.{added};
-ghost use Rattle.dstm_jobs.specs.Tells.{SightsAgree};
+ghost use Rattle.dstm_tables.specs.Tells.{SightsAgree};
 ghost use Rattle.dstm_cli.specs.declared.failure.Failure.{Failure as TheFailure};
 ghost use Rattle.dstm_cli.specs.Failure.{message_of, status_of, TakesOrFaults};
 ghost use Rattle.dstm_cli.specs.Command.{asked, reads_input, Refuses, Answers, CanAnswer, WereClosed};

@@ -1,18 +1,19 @@
 ghost use Rattle.std.specs.Prelude.{◌≡◌, ◌<◌, [], All, IfOk};
 ghost use Rattle.dstm_model.specs.Layout.{IsValid};
-ghost use Rattle.dstm_jobs.specs.Callers.{AtRest, begun, done, home_of, law_of, round_of};
-ghost use Rattle.dstm_jobs.specs.Founders.{guests_of, home_there, out_of};
-ghost use Rattle.dstm_jobs.specs.Tells.{callers_of};
+ghost use Rattle.dstm_jobs.specs.Tables.{AtRest};
+ghost use Rattle.dstm_tables.specs.Callers.{begun, done, home_of, law_of, round_of};
+ghost use Rattle.dstm_tables.specs.Founders.{guests_of, home_there, out_of};
+ghost use Rattle.dstm_tables.specs.Tells.{callers_of};
 ghost use Rattle.dstm_workload.specs.Workload.{IsValidWorkload};
 
 use dstm_core::{Manager, Shape};
 use dstm_crew::{Done, OpenGate, Worker};
-use dstm_model::{Layout, Reply};
-use dstm_options::{Engine, Options};
-use dstm_store::{StoreLaw, opening, read_state};
 use dstm_jobs::{
     Caller, Finished, Founder, OnlyTried, Style, Table, Zeros, give_up, make, try_alone,
 };
+use dstm_model::{Layout, Reply};
+use dstm_options::{Engine, Options};
+use dstm_store::{StoreLaw, opening, read_state};
 use dstm_workload::{Workload, read_workload};
 use std::alloc::{AllocError, Global};
 use std::test::Fail;
@@ -48,7 +49,7 @@ fn open_table(
     };
     let law = StoreLaw { layout: *layout };
     let (table, mut founder) = make(alloc, engine, &mut Zeros::new(alloc), start, shape, law)?;
-    let caller = founder.caller(alloc, &table, 7)?;
+    let caller = founder.next_caller(alloc, &table, 7)?;
     Ok((table, founder, caller))
 }
 

@@ -1,7 +1,8 @@
 use Rattle.std.proofs.Common.{◌∙◌, sym}
-use Rattle.dstm_jobs.specs.Callers.{round_of}
-use Rattle.dstm_jobs.specs.Founders.{first_of}
-use Rattle.dstm_jobs.proofs.Same.{callers_past, first_past, layout_is, layout_past}
+use Rattle.dstm_tables.specs.Callers.{round_of}
+use Rattle.dstm_tables.specs.Founders.{first_of}
+use Rattle.dstm_tables.proofs.Same.{callers_past, first_past}
+use Rattle.dstm_jobs.proofs.Same.{layout_is, layout_past}
 use Rattle.dstm_crew_tests.proofs.trying.open_table.Goals as goal
 
 pub returns-clause-law : goal.returns-clause-law

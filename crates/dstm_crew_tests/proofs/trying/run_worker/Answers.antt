@@ -2,10 +2,11 @@ use Rattle.std.proofs.Common.{◌≡◌, ◌∙◌, ◌<◌, All, List, ap, arit
 use Rattle.dstm_model.specs.declared.layout.Layout.{Layout}
 use Rattle.dstm_model.specs.declared.value.Val.{Val}
 use Rattle.dstm_store.specs.Whole.{IsLawful}
-use Rattle.dstm_jobs.specs.Callers.{round_of}
-use Rattle.dstm_jobs.specs.Founders.{first_of, seen_by}
-use Rattle.dstm_jobs.specs.Tells.{layout_of}
-use Rattle.dstm_jobs.proofs.Same.{first_past, first_seen, layout_is, layout_past}
+use Rattle.dstm_tables.specs.Callers.{round_of}
+use Rattle.dstm_tables.specs.Founders.{first_of, seen_by}
+use Rattle.dstm_jobs.specs.Tables.{layout_of}
+use Rattle.dstm_tables.proofs.Same.{first_past, first_seen}
+use Rattle.dstm_jobs.proofs.Same.{layout_is, layout_past}
 use Rattle.dstm_workload.specs.declared.workload.Job.{Job}
 use Rattle.dstm_crew.specs.Done.{DoneAs}
 use Rattle.dstm_crew_tests.proofs.trying.run_worker.Goals as goal
