@@ -74,7 +74,55 @@ def walk(rng, count, workers):
         yield f"tx {i % workers} {word} list {rng.randrange(512)}"
 
 
-KINDS = {kind.__name__: kind for kind in (hot, cold, tree, full, long, audit, walk)}
+def audits(rng, count, workers):
+    """Of a hundred transactions all but one read 256 accounts, and one is a transfer among them."""
+    yield "bank 256 1000000"
+    for i in range(count):
+        if rng.random() < 0.99:
+            yield f"tx {i % workers} total"
+        else:
+            yield f"tx {i % workers} transfer {rng.randrange(256)} {rng.randrange(256)} {rng.randrange(1, 100)}"
+
+
+def look(rng, count, workers):
+    """A tree that is filled with 32,767 keys, 8 in a transaction; then 8 operations each, of which 98 in a hundred look
+    a key up."""
+    yield "tree 65535"
+    keys = rng.sample(range(0, 131070, 2), 32767)
+    for i in range(count):
+        batch = [f"insert tree {key}" for key in keys[8 * i : 8 * i + 8]]
+        while len(batch) < 8:
+            word = "member" if rng.random() < 0.98 else rng.choice(["insert", "remove"])
+            batch.append(f"{word} tree {rng.randrange(131070)}")
+        yield f"tx {i % workers} " + " ; ".join(batch)
+
+
+def read(rng, count, workers):
+    """Transactions that read 8 of 1,024 accounts, or 7 and make a transfer: one in fifty."""
+    yield "bank 1024 1000000"
+    for i in range(count):
+        operations = [f"balance {account}" for account in rng.sample(range(1024), 8)]
+        if rng.random() < 0.02:
+            operations[-1] = f"transfer {rng.randrange(1024)} {rng.randrange(1024)} {rng.randrange(1, 100)}"
+        yield f"tx {i % workers} " + " ; ".join(operations)
+
+
+def reserve(rng, count, workers):
+    """A tree that is filled with 16,384 keys; then 6 look-ups in it and 2 payments among 4,096 accounts each, as those
+    who reserve do."""
+    yield "bank 4096 1000000\ntree 65535"
+    keys = rng.sample(range(0, 131070, 2), 16384)
+    for i in range(count):
+        batch = [f"insert tree {key}" for key in keys[8 * i : 8 * i + 8]]
+        if not batch:
+            batch = [f"member tree {rng.randrange(131070)}" for _ in range(6)]
+            for _ in range(2):
+                batch.append(f"transfer {rng.randrange(4096)} {rng.randrange(4096)} {rng.randrange(1, 100)}")
+        yield f"tx {i % workers} " + " ; ".join(batch)
+
+
+LOADS = (hot, cold, tree, full, long, audit, walk, audits, look, read, reserve)
+KINDS = {kind.__name__: kind for kind in LOADS}
 
 
 def text_of(kind, count, workers, seed=7):
