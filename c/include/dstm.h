@@ -1,0 +1,255 @@
+/* dstm.h: a transactional memory for the threads of a program in C or C++. The library behind it is written and
+   proved in Rattle.
+
+   A memory has cells of two 64-bit words. Each thread takes a part in the memory, and makes transactions by its part:
+
+       dstm_memory memory = DSTM_ZERO;
+       dstm_thread me = DSTM_ZERO;
+       dstm_cell counter;
+       dstm_code code;
+       uint64_t n;
+
+       dstm_memory_new(&memory, 4, DSTM_TL2);             // at most 4 threads at once
+       dstm_cell_new(&memory, 0, 0, &counter);
+       dstm_thread_new(&memory, &me);                     // for each thread, one at a time
+       do {                                               // in the thread
+           code = dstm_begin(&me);
+           if (!code) code = dstm_get_u64(&me, counter, &n);
+           if (!code) code = dstm_set_u64(&me, counter, n + 1);
+           if (!code) code = dstm_commit(&me);
+       } while (code == DSTM_AGAIN);
+
+   dstm_atomically, at the end, is this loop for a function of the program.
+
+   Every call answers a code. Each ends, whatever other threads do: none waits for another thread, but dstm_wait and
+   dstm_atomically, and these for so many looks only.
+
+   What the program owes, and nothing checks:
+   - a handle is all zeros at first (DSTM_ZERO). The program does not change it, and uses no copy of it beside it;
+   - of two calls on one handle one ends before the other begins, and dstm_thread_new is a call on both of its
+     handles. A handle goes from one thread to another only as the program orders it: by a lock, or by the start or
+     end of a thread;
+   - a pointer that is not null points to what its type says, and to no other argument of the call;
+   - no call comes from a signal handler, or in the forked child of a process with threads;
+   - malloc, realloc and free are those of one allocator, and align as C says.
+   A cell is a number. One of another memory is DSTM_FOREIGN only where this memory has no such number. */
+#ifndef DSTM_H
+#define DSTM_H
+#include <sched.h>
+#include <stdint.h>
+#ifdef __cplusplus
+extern "C" {
+#endif
+
+/* The version of this header: 10,000 for each version, 100 for each addition to it, 1 for each mending. */
+#define DSTM_VERSION 10000
+
+typedef enum dstm_code {
+    DSTM_OK = 0,
+    DSTM_AGAIN = 1,   /* the transaction is lost, since another one came between: begin again */
+    DSTM_SPENT = 2,   /* by DSTM alone: the part has no attempts left, or no locators: free it and take another */
+    DSTM_FOREIGN = 3, /* the memory has no such cell */
+    DSTM_IDLE = 4,    /* no transaction is under way */
+    DSTM_OPEN = 5,    /* a transaction is under way */
+    DSTM_CLOSED = 6,  /* the handle is closed, or not of this kind */
+    DSTM_TAKEN = 7,   /* the handle is not closed: what it stands for would be lost */
+    DSTM_BUSY = 8,    /* threads have parts in the memory */
+    DSTM_FULL = 9,    /* the memory has as many cells, or as many parts, as it can have */
+    DSTM_MEMORY = 10, /* there is not enough memory */
+    DSTM_RANGE = 11,  /* a number is out of its range */
+    DSTM_NULL = 12,   /* a pointer is null */
+    DSTM_RETRY = 13   /* what a body answers where it cannot go on with what it has read */
+} dstm_code;
+
+/* By which engine a memory works: by TL2; or by DSTM, under one of four contention managers. By DSTM nobody locks, so
+   that a thread that is stopped in the middle of a call keeps no other one from committing; a part has 65,536
+   attempts, and 131,072 cells more than the memory has may be opened by it for writing. By TL2 a part has no end. */
+typedef enum dstm_engine {
+    DSTM_TL2 = 0,
+    DSTM_POLKA = 1,
+    DSTM_KARMA = 2,
+    DSTM_POLITE = 3,
+    DSTM_GREEDY = 4
+} dstm_engine;
+
+typedef struct dstm_memory { void *at; uint64_t state; } dstm_memory;
+typedef struct dstm_thread { void *at; uint64_t state; } dstm_thread;
+typedef uint32_t dstm_cell;
+#define DSTM_ZERO {0, 0}
+
+/* What the library exports: the same calls without the tests for null. */
+uint32_t dstmc_version(void);
+uint32_t dstmc_memory_new(dstm_memory *memory, uint32_t threads, uint32_t engine);
+uint32_t dstmc_memory_free(dstm_memory *memory);
+uint32_t dstmc_cell_new(dstm_memory *memory, uint64_t low, uint64_t high, uint32_t *cell);
+uint32_t dstmc_peek(dstm_memory *memory, uint32_t cell, uint64_t *low, uint64_t *high);
+uint32_t dstmc_thread_new(dstm_memory *memory, dstm_thread *thread);
+uint32_t dstmc_thread_free(dstm_thread *thread);
+uint32_t dstmc_begin(dstm_thread *thread);
+uint32_t dstmc_get(dstm_thread *thread, uint32_t cell, uint64_t *low, uint64_t *high);
+uint32_t dstmc_set(dstm_thread *thread, uint32_t cell, uint64_t low, uint64_t high);
+uint32_t dstmc_commit(dstm_thread *thread);
+uint32_t dstmc_abort(dstm_thread *thread);
+uint32_t dstmc_look(dstm_thread *thread);
+uint32_t dstmc_mark(dstm_thread *thread, uint64_t *mark);
+uint32_t dstmc_undo_to(dstm_thread *thread, uint64_t mark);
+
+#define DSTM_CALL(test, call) ((test) ? (dstm_code)(call) : DSTM_NULL)
+
+/* The version of the library. It fits this header where both are of one version, as 10,000 divides them. */
+static inline uint32_t dstm_version(void) { return dstmc_version(); }
+
+/* What a code means. */
+static inline const char *dstm_code_text(dstm_code code) {
+    switch (code) {
+    case DSTM_OK: return "done";
+    case DSTM_AGAIN: return "the transaction is lost";
+    case DSTM_SPENT: return "the part has no attempts left";
+    case DSTM_FOREIGN: return "the memory has no such cell";
+    case DSTM_IDLE: return "no transaction is under way";
+    case DSTM_OPEN: return "a transaction is under way";
+    case DSTM_CLOSED: return "the handle is closed, or of another kind";
+    case DSTM_TAKEN: return "the handle is not closed";
+    case DSTM_BUSY: return "threads have parts in the memory";
+    case DSTM_FULL: return "the memory has no room for it";
+    case DSTM_MEMORY: return "out of memory";
+    case DSTM_RANGE: return "a number is out of its range";
+    case DSTM_NULL: return "a pointer is null";
+    case DSTM_RETRY: return "nothing that was read has changed";
+    }
+    return "no code";
+}
+
+/* MEMORIES. One thread at a time uses a memory; others may make transactions by their parts meanwhile. */
+
+/* A memory with no cell, in which so many threads, from 1 to 63, may have parts at once. RANGE, TAKEN, MEMORY. */
+static inline dstm_code dstm_memory_new(dstm_memory *memory, uint32_t threads, dstm_engine engine) {
+    return DSTM_CALL(memory, dstmc_memory_new(memory, threads, (uint32_t)engine));
+}
+/* Parts that threads still have stay good. CLOSED. */
+static inline dstm_code dstm_memory_free(dstm_memory *memory) {
+    return DSTM_CALL(memory, dstmc_memory_free(memory));
+}
+/* A new cell; at most 524,288, while no thread has a part. BUSY, FULL, MEMORY, CLOSED. */
+static inline dstm_code dstm_cell_new(dstm_memory *memory, uint64_t low, uint64_t high, dstm_cell *cell) {
+    return DSTM_CALL(memory && cell, dstmc_cell_new(memory, low, high, cell));
+}
+static inline dstm_code dstm_cell_new_u64(dstm_memory *memory, uint64_t low, dstm_cell *cell) {
+    return DSTM_CALL(memory && cell, dstmc_cell_new(memory, low, 0, cell));
+}
+/* What a cell holds, while no thread has a part. BUSY, FOREIGN, MEMORY, CLOSED. */
+static inline dstm_code dstm_peek(dstm_memory *memory, dstm_cell cell, uint64_t *low, uint64_t *high) {
+    return DSTM_CALL(memory && low && high && low != high, dstmc_peek(memory, cell, low, high));
+}
+static inline dstm_code dstm_peek_u64(dstm_memory *memory, dstm_cell cell, uint64_t *low) {
+    uint64_t high;
+    return DSTM_CALL(memory && low, dstmc_peek(memory, cell, low, &high));
+}
+/* A part for a thread. FULL: so many threads have parts; or 63 parts (by DSTM as many as threads) were given out
+   since a moment at which no thread had one. FULL, TAKEN, MEMORY, CLOSED. */
+static inline dstm_code dstm_thread_new(dstm_memory *memory, dstm_thread *thread) {
+    return DSTM_CALL(memory && thread && (void *)memory != (void *)thread, dstmc_thread_new(memory, thread));
+}
+/* Gives a part back; a transaction under way is given up. CLOSED. */
+static inline dstm_code dstm_thread_free(dstm_thread *thread) { return DSTM_CALL(thread, dstmc_thread_free(thread)); }
+
+/* TRANSACTIONS. What is read is of one moment, also in an attempt that comes to nothing. */
+
+/* Begins a transaction, or the next attempt at one that was lost. OPEN, SPENT, CLOSED. */
+static inline dstm_code dstm_begin(dstm_thread *me) { return DSTM_CALL(me, dstmc_begin(me)); }
+/* What a cell holds. AGAIN, FOREIGN, IDLE, CLOSED: then nothing is written to low and high. */
+static inline dstm_code dstm_get(dstm_thread *me, dstm_cell cell, uint64_t *low, uint64_t *high) {
+    return DSTM_CALL(me && low && high && low != high, dstmc_get(me, cell, low, high));
+}
+static inline dstm_code dstm_get_u64(dstm_thread *me, dstm_cell cell, uint64_t *low) {
+    uint64_t high;
+    return DSTM_CALL(me && low, dstmc_get(me, cell, low, &high));
+}
+/* Puts a value into a cell. AGAIN, FOREIGN, IDLE, MEMORY, CLOSED. */
+static inline dstm_code dstm_set(dstm_thread *me, dstm_cell cell, uint64_t low, uint64_t high) {
+    return DSTM_CALL(me, dstmc_set(me, cell, low, high));
+}
+static inline dstm_code dstm_set_u64(dstm_thread *me, dstm_cell cell, uint64_t low) {
+    return DSTM_CALL(me, dstmc_set(me, cell, low, 0));
+}
+/* OK: the transaction took effect as a whole. Any other code: nothing of it did. AGAIN, IDLE, CLOSED. */
+static inline dstm_code dstm_commit(dstm_thread *me) { return DSTM_CALL(me, dstmc_commit(me)); }
+/* Gives the transaction up: nothing of it takes effect. IDLE, CLOSED. */
+static inline dstm_code dstm_abort(dstm_thread *me) { return DSTM_CALL(me, dstmc_abort(me)); }
+
+/* WAITING, where a transaction cannot go on with what it has read. */
+
+/* One look. OK: nothing that the transaction has read has changed. AGAIN: something may have (by TL2, where any
+   transaction has committed since it began), or it was lost. After a look it can only look, begin again or be given
+   up. SPENT, IDLE, CLOSED. */
+static inline dstm_code dstm_look(dstm_thread *me) { return DSTM_CALL(me, dstmc_look(me)); }
+/* So many looks, and before each of them the processor is left to others. AGAIN: begin again. RETRY: nothing has
+   changed for all of them; the transaction is given up. SPENT, IDLE, CLOSED. */
+static inline dstm_code dstm_wait(dstm_thread *me, uint32_t looks) {
+    for (; looks; looks--) {
+        dstm_code code;
+        sched_yield();
+        code = dstm_look(me);
+        if (code) return code;
+    }
+    {
+        dstm_code code = dstm_abort(me);
+        return code ? code : DSTM_RETRY;
+    }
+}
+
+/* ALTERNATIVES. */
+
+/* Marks what the transaction has set. AGAIN, IDLE, CLOSED. */
+static inline dstm_code dstm_mark(dstm_thread *me, uint64_t *mark) {
+    return DSTM_CALL(me && mark, dstmc_mark(me, mark));
+}
+/* Undoes what was set since a mark of this transaction. What was read stays read. RANGE, AGAIN, IDLE, CLOSED. */
+static inline dstm_code dstm_undo_to(dstm_thread *me, uint64_t mark) { return DSTM_CALL(me, dstmc_undo_to(me, mark)); }
+
+/* What the loop below calls: a part of a transaction. It passes on each code that is not DSTM_OK. */
+typedef dstm_code (*dstm_body)(dstm_thread *me, void *with);
+
+/* Goes on by the first body, or by the second one where the first answers DSTM_RETRY: what that has set is undone. */
+static inline dstm_code dstm_or_else(dstm_thread *me, dstm_body first, dstm_body second, void *with) {
+    uint64_t mark = 0;
+    dstm_code code = dstm_mark(me, &mark);
+    if (!code) code = first(me, with);
+    if (code != DSTM_RETRY) return code;
+    code = dstm_undo_to(me, mark);
+    return code ? code : second(me, with);
+}
+
+/* Makes a transaction of a body: calls it until it has taken effect. Where the body answers DSTM_RETRY, it is called
+   again once something that it has read may have changed; where nothing does for so many looks, that is the answer.
+   Any other code of the body gives the transaction up, and is the answer. */
+static inline dstm_code dstm_atomically_for(dstm_thread *me, uint32_t looks, dstm_body body, void *with) {
+    dstm_code code = dstm_begin(me);
+    while (!code) {
+        code = body(me, with);
+        if (!code) {
+            code = dstm_commit(me);
+            if (!code) return code;
+        }
+        if (code == DSTM_RETRY) code = dstm_wait(me, looks);
+        if (code != DSTM_AGAIN) {
+            dstm_abort(me);
+            return code;
+        }
+        code = dstm_begin(me);
+        if (code == DSTM_OPEN) { /* it is not lost: the body said so by itself */
+            dstm_abort(me);
+            code = dstm_begin(me);
+        }
+    }
+    return code;
+}
+/* The same with 1,048,576 looks. */
+static inline dstm_code dstm_atomically(dstm_thread *me, dstm_body body, void *with) {
+    return dstm_atomically_for(me, 1048576, body, with);
+}
+
+#ifdef __cplusplus
+}
+#endif
+#endif

@@ -1,0 +1,341 @@
+#!/usr/bin/env python3
+"""make.py: proves the library for programs in C, C++, Rust and Python, builds it, and tests it.
+
+    python3 c/make.py                   leaves libdstm.a, libdstm.so.1 and dstm.pc in c/out, and runs all tests
+    python3 c/make.py --prefix FOLDER   and installs them, and dstm.h, below that folder
+    python3 c/make.py --quiet           says only what failed, what was skipped, and how many passed
+    python3 c/make.py --bench           and measures the library beside a mutex and beside gcc's transactional memory
+    python3 c/make.py --behind-rt-ci    takes the libraries that rt ci has just proved and left as they are
+    python3 c/make.py --archive FILE    builds and tests with this archive of the exports, and proves nothing
+
+A test whose tool is missing is skipped, and the tool is named. The last line is 'N passed, M failed, K skipped'."""
+import argparse
+import contextlib
+import importlib.machinery
+import importlib.util
+import os
+import re
+import shutil
+import subprocess
+import sys
+import tempfile
+import time
+
+sys.dont_write_bytecode = True
+
+HERE = os.path.dirname(os.path.realpath(__file__))
+ROOT = os.path.dirname(HERE)
+OUT = f"{HERE}/out"
+HEADER = f"{HERE}/include/dstm.h"
+EXPORTS = f"{ROOT}/crates/dstm_c/src/exports.rt"
+TESTS = ("counter", "bank", "queue", "alternatives", "parts", "misuse")
+WARNINGS = ("-Wall", "-Wextra", "-pedantic", "-Werror")
+# What the archive may want of a program that it is linked with.
+WANTED = {"free", "malloc", "realloc", "memcpy", "memmove", "memset"}
+VERSION = re.search(r"#define DSTM_VERSION (\d+)", open(HEADER, encoding="utf-8").read())[1]
+NUMBERS = (int(VERSION) // 10000, int(VERSION) // 100 % 100, int(VERSION) % 100)
+PC = """prefix={prefix}
+libdir=${{prefix}}/lib
+includedir=${{prefix}}/include
+
+Name: dstm
+Description: A proved software transactional memory
+Version: {version}
+Cflags: -I${{includedir}}
+Libs: -L${{libdir}} -ldstm
+"""
+
+
+class Failed(Exception):
+    pass
+
+
+class Missing(Exception):
+    pass
+
+
+def tool(name):
+    found = shutil.which(name)
+    if not found:
+        raise Missing(name)
+    return found
+
+
+def call(words, **how):
+    """Runs a command, and returns what it wrote; where it fails, that is the failure's text."""
+    how = {"stdin": subprocess.DEVNULL, "timeout": 900, **how}
+    how = {"stdout": subprocess.PIPE, "stderr": subprocess.STDOUT, "text": True, **how}
+    try:
+        ran = subprocess.run([str(it) for it in words], **how)
+    except subprocess.TimeoutExpired:
+        raise Failed(f"{words[0]} had not ended after {how['timeout']} seconds") from None
+    if ran.returncode:
+        raise Failed(f"{' '.join(map(str, words))}\nended with status {ran.returncode}:\n{(ran.stdout or '')[-3000:]}")
+    return ran.stdout or ""
+
+
+class Steps:
+    def __init__(self, quiet):
+        self.quiet, self.passed, self.failed, self.skipped = quiet, 0, 0, 0
+
+    def step(self, name, does):
+        """Does one step, and returns whether it passed."""
+        began = time.time()
+        try:
+            said = does()
+        except Missing as tool:
+            self.skipped += 1
+            print(f"c: {name}: skipped, since there is no {tool}", flush=True)
+            return False
+        except Failed as why:
+            self.failed += 1
+            print(f"c: {name}: FAILED: {why}", flush=True)
+            return False
+        self.passed += 1
+        if not self.quiet:
+            print(f"c: {name}: passed ({time.time() - began:.1f} s){f': {said}' if said else ''}", flush=True)
+        return True
+
+
+@contextlib.contextmanager
+def left_by_rt_ci():
+    """Marks the libraries below the exports as built, for the time of one command. rt ci leaves them all of one run, and
+    without that mark, so that any other command would prove them again."""
+    loader = importlib.machinery.SourceFileLoader("rtlib", f"{kit()}/bin/rtlib.py")
+    spec = importlib.util.spec_from_loader("rtlib", loader)
+    rtlib = importlib.util.module_from_spec(spec)
+    sys.modules["rtlib"] = rtlib
+    loader.exec_module(rtlib)
+    marked = []
+    try:
+        for crate in rtlib.Crate(f"{ROOT}/crates/dstm_c", ROOT, {}).below():
+            if os.path.isdir(crate.rlib) and not crate.is_built():
+                marked.append(f"{crate.folder}/out/rlib/stamp")
+                with open(marked[-1], "w", encoding="utf-8") as it:
+                    it.write(crate.stamp())
+        yield
+    finally:
+        for it in marked:
+            with contextlib.suppress(FileNotFoundError):
+                os.remove(it)
+
+
+def prove(behind_rt_ci):
+    """Proves the exports and what they stand on, and returns the archive."""
+    folder = f"{ROOT}/crates/dstm_c"
+    with left_by_rt_ci() if behind_rt_ci else contextlib.nullcontext():
+        said = call([tool("rt"), "lib"], cwd=folder, timeout=None)
+    last = [line for line in said.splitlines() if line.startswith("logic=")]
+    if not last or not last[-1].startswith("logic=proved"):
+        raise Failed(f"rt lib proved nothing:\n{said[-1000:]}")
+    return f"{folder}/out/libdstm_c.a"
+
+
+def kit():
+    """The folder of Rattle's kit."""
+    found = os.path.dirname(os.path.dirname(os.path.realpath(tool("rt"))))
+    if not os.path.isfile(f"{found}/c/liblibc_c.a"):
+        raise Missing("rt with its folder c")
+    return found
+
+
+def archive(exports):
+    """Makes libdstm.a of the exports and of the kit's calls to malloc, realloc and free."""
+    whole = f"{OUT}/libdstm.a"
+    if os.path.exists(whole):
+        os.remove(whole)
+    script = f"create {whole}\naddlib {exports}\naddlib {kit()}/c/liblibc_c.a\nsave\nend\n"
+    ar = shutil.which("ar")
+    words = [ar, "-M"] if ar else ["llvm-ar", "-M"]
+    by = ar or f"{kit()}/toolchain/bin/llvm-ar"
+    ran = subprocess.run(words, executable=by, input=script, capture_output=True, text=True)
+    if ran.returncode or not os.path.isfile(whole):
+        raise Failed(f"ar: {ran.stderr[-1000:]}")
+    return f"{os.path.getsize(whole):,} bytes"
+
+
+def shared():
+    """Makes libdstm.so.1, which exports what the header declares."""
+    names = ";".join(declared())
+    with open(f"{OUT}/exports.map", "w", encoding="utf-8") as it:
+        it.write(f"{{ global: {names}; local: *; }};\n")
+    soname = f"libdstm.so.{NUMBERS[0]}"
+    words = ["-shared", "-o", f"{OUT}/{soname}", f"-Wl,-soname,{soname}", "-Wl,-z,defs"]
+    words += [f"-Wl,--version-script={OUT}/exports.map"]
+    call([c_compiler(), *words, "-Wl,--whole-archive", f"{OUT}/libdstm.a", "-Wl,--no-whole-archive"])
+    link = f"{OUT}/libdstm.so"
+    if os.path.lexists(link):
+        os.remove(link)
+    os.symlink(soname, link)
+
+
+def c_compiler():
+    for name in (os.environ.get("CC", "cc"), "gcc", "clang"):
+        if shutil.which(name):
+            return name
+    raise Missing("C compiler")
+
+
+def declared():
+    """Returns the types of the arguments of each call that the header declares."""
+    with open(HEADER, encoding="utf-8") as it:
+        found = re.findall(r"^uint32_t (dstmc_\w+)\(([^)]*)\);", it.read(), re.M)
+    types = lambda said: [] if said == "void" else [re.sub(r"\s*\w+$", "", arg.strip()) for arg in said.split(",")]
+    return {name: types(said) for name, said in found}
+
+
+def exported():
+    """Returns the same of each call that the crate exports, as C passes them: an allocator it does not."""
+    c = {"u32": "uint32_t", "u64": "uint64_t", "&mut u32": "uint32_t *", "&mut u64": "uint64_t *"}
+    with open(EXPORTS, encoding="utf-8") as it:
+        found = re.findall(r'#\[unsafe\(no_mangle\)\]\s*pub extern "C" fn (\w+)\(([^)]*)\) -> u32', it.read())
+    made = {}
+    for name, said in found:
+        args = [[word.strip() for word in arg.split(":")] for arg in said.split(",") if arg.strip()]
+        c_of = lambda arg, kind: f"dstm_{arg} *" if kind == "&mut Handle" else c.get(kind, kind)
+        made[name] = [c_of(arg, kind) for arg, kind in args if kind != "Global"]
+    return made
+
+
+def same_calls():
+    """The header declares what the crate exports, with the same arguments, and the archive has these symbols alone."""
+    by_header, by_crate = declared(), exported()
+    if by_header != by_crate:
+        differ = sorted(it for it in {*by_header, *by_crate} if by_header.get(it) != by_crate.get(it))
+        both = [f"{it}: the header has {by_header.get(it)}, the crate {by_crate.get(it)}" for it in differ]
+        raise Failed("\n".join(both))
+    said = call([tool("nm"), f"{OUT}/libdstm.a"])
+    has = {it.split()[-1] for it in said.splitlines() if re.search(r" T (dstmc|rattle)_", it)}
+    wants = {it.split()[-1] for it in said.splitlines() if re.match(r"\s+U ", it)} - has
+    calls = {it for it in has if it.startswith("dstmc_")}
+    if calls != {*by_header}:
+        raise Failed(f"the header and the archive differ in {sorted(calls ^ {*by_header})}")
+    if wants - WANTED:
+        raise Failed(f"the archive wants {sorted(wants - WANTED)} of a program")
+    return f"{len(calls)} calls"
+
+
+def headers():
+    """Returns the checks that the header is taken without a warning, by their names."""
+    uses = '#include "dstm.h"\nstatic dstm_memory memory = DSTM_ZERO;\n'
+    uses += "int main(void) { return dstm_memory_free(&memory) == DSTM_OK; }\n"
+    checks = {}
+    taken = [("gcc", "c", "c99"), ("gcc", "c", "c11"), ("clang", "c", "c99"), ("clang", "c", "c11")]
+    for compiler, language, standard in [*taken, ("g++", "c++", "c++17"), ("clang++", "c++", "c++17")]:
+        words = [f"-std={standard}", "-x", language, *WARNINGS, f"-I{HERE}/include", "-fsyntax-only", "-"]
+        check = lambda by=compiler, words=words: call([tool(by), *words], input=uses, stdin=None)
+        checks[f"dstm.h as {standard} by {compiler}"] = check
+    return checks
+
+
+def build_test(name, compiler, room):
+    words = [compiler, "-std=c99", "-O2", *WARNINGS, f"-I{HERE}/include", "-o", f"{room}/{name}"]
+    call([*words, f"{HERE}/tests/{name}.c", f"{OUT}/libdstm.a", "-lpthread"])
+    return f"{room}/{name}"
+
+
+def run_test(name, room):
+    call([build_test(name, c_compiler(), room)], timeout=300)
+
+
+def valgrind(name, room):
+    tool("valgrind")
+    program = build_test(name, c_compiler(), room)
+    for engine in ("tl2", "polka"):
+        call(["valgrind", "-q", "--leak-check=full", "--error-exitcode=9", program, engine], timeout=600)
+
+
+def python():
+    for engine in ("0", "1"):
+        said = call([sys.executable, f"{HERE}/python/counter.py", f"{OUT}/libdstm.so", engine]).strip()
+        if said != "4000":
+            raise Failed(f"it says {said}")
+
+
+def rust(room):
+    tool("cargo")
+    how = {**os.environ, "DSTM_LIB": OUT, "CARGO_TARGET_DIR": f"{room}/target"}
+    said = call(["cargo", "test", "--offline", "--quiet"], cwd=f"{HERE}/rust", env=how)
+    return ", ".join(re.findall(r"(\d+ passed)", said))
+
+
+def install(prefix):
+    """Installs the library below a folder, and builds a program there by what pkg-config says."""
+    version = ".".join(map(str, NUMBERS))
+    for folder in ("include", "lib/pkgconfig"):
+        os.makedirs(f"{prefix}/{folder}", exist_ok=True)
+    shutil.copyfile(HEADER, f"{prefix}/include/dstm.h")
+    shutil.copyfile(f"{OUT}/libdstm.a", f"{prefix}/lib/libdstm.a")
+    soname = f"libdstm.so.{NUMBERS[0]}"
+    if os.path.isfile(f"{OUT}/{soname}"):
+        shutil.copyfile(f"{OUT}/{soname}", f"{prefix}/lib/{soname}")
+        link = f"{prefix}/lib/libdstm.so"
+        if os.path.lexists(link):
+            os.remove(link)
+        os.symlink(soname, link)
+    with open(f"{prefix}/lib/pkgconfig/dstm.pc", "w", encoding="utf-8") as it:
+        it.write(PC.format(prefix=os.path.abspath(prefix), version=version))
+    return os.path.abspath(prefix)
+
+
+def by_pkg_config(room):
+    """A program finds what was installed."""
+    tool("pkg-config")
+    prefix = install(f"{room}/prefix")
+    how = {**os.environ, "PKG_CONFIG_PATH": f"{prefix}/lib/pkgconfig"}
+    words = call(["pkg-config", "--cflags", "--libs", "dstm"], env=how).split()
+    call([c_compiler(), "-std=c99", f"{HERE}/tests/counter.c", "-o", f"{room}/installed", *words, "-lpthread"])
+    call([f"{room}/installed", "tl2"], env={**os.environ, "LD_LIBRARY_PATH": f"{prefix}/lib"})
+
+
+def bench(room):
+    """Measures transactions beside a mutex and beside gcc's transactional memory."""
+    program = f"{room}/bench"
+    words = ["-std=gnu11", "-O2", "-fgnu-tm", f"-I{HERE}/include", "-o", program]
+    call([tool("gcc"), *words, f"{ROOT}/bench/c_library.c", f"{OUT}/libdstm.a", "-lpthread"])
+    for kind in ("move", "read"):
+        for threads in ("1", "2", "4"):
+            for what in ("mutex", "itm", "tl2", "polka"):
+                said = [call([program, what, kind, threads, "50000", "256"]).strip() for _ in range(3)]
+                print(f"c: {min(said, key=lambda it: float(it.split(',')[1].split()[0]))}", flush=True)
+
+
+def main():
+    said = argparse.ArgumentParser(description=__doc__, formatter_class=argparse.RawDescriptionHelpFormatter)
+    said.add_argument("--prefix")
+    said.add_argument("--quiet", action="store_true")
+    said.add_argument("--bench", action="store_true")
+    said.add_argument("--behind-rt-ci", action="store_true")
+    said.add_argument("--archive")
+    args = said.parse_args()
+    steps, made = Steps(args.quiet), {}
+    os.makedirs(OUT, exist_ok=True)
+    if args.archive:
+        made["exports"] = os.path.abspath(args.archive)
+    else:
+        steps.step("the proof", lambda: made.update(exports=prove(args.behind_rt_ci)))
+    if "exports" in made and steps.step("libdstm.a", lambda: archive(made["exports"])):
+        with tempfile.TemporaryDirectory(prefix="dstm-c-") as room:
+            steps.step("the header and the archive", same_calls)
+            for name, check in headers().items():
+                steps.step(name, lambda check=check: check() and None)
+            for name in TESTS:
+                steps.step(f"{name}.c", lambda name=name: run_test(name, room))
+            steps.step("alternatives.c under valgrind", lambda: valgrind("alternatives", room))
+            steps.step("parts.c under valgrind", lambda: valgrind("parts", room))
+            if steps.step("libdstm.so", shared):
+                steps.step("counter.py", python)
+                steps.step("counter.c as installed", lambda: by_pkg_config(room))
+            steps.step("the crate dstm for Rust", lambda: rust(room))
+            with open(f"{OUT}/dstm.pc", "w", encoding="utf-8") as it:
+                it.write(PC.format(prefix="/usr/local", version=".".join(map(str, NUMBERS))))
+            if args.prefix:
+                steps.step("the installation", lambda: install(args.prefix))
+            if args.bench:
+                steps.step("the benchmark", lambda: bench(room))
+    print(f"{steps.passed} passed, {steps.failed} failed, {steps.skipped} skipped", flush=True)
+    return 1 if steps.failed or not steps.passed else 0
+
+
+if __name__ == "__main__":
+    sys.exit(main())

@@ -1,0 +1,525 @@
+//! A software transactional memory for the threads of a Rust program. The library behind it, `libdstm.a`, is written
+//! and proved in Rattle.
+//!
+//! ```
+//! use dstm::Memory;
+//! let mut memory = Memory::new(4)?;
+//! let counter = memory.cell(0u64)?;
+//! std::thread::scope(|scope| {
+//!     for _ in 0..4 {
+//!         let mut me = memory.thread().unwrap();
+//!         scope.spawn(move || {
+//!             for _ in 0..10_000 {
+//!                 me.atomically(|tx| tx.update(counter, |n| n + 1)).unwrap();
+//!             }
+//!         });
+//!     }
+//! });
+//! assert_eq!(memory.get(counter)?, 40_000);
+//! # Ok::<(), dstm::Error>(())
+//! ```
+//!
+//! A closure that cannot go on with what it has read retries: it is called again once something of that may have
+//! changed. With `or_else` it goes on in another way instead, and what the first way has set is undone.
+//!
+//! ```
+//! use dstm::{Cell, Memory, Stop, Tx};
+//! fn take(tx: &mut Tx<'_, '_>, from: Cell<u64>) -> Result<(), Stop> {
+//!     let left = tx.get(from)?;
+//!     tx.ensure(left > 0)?;
+//!     tx.set(from, left - 1)
+//! }
+//! let mut memory = Memory::new(1)?;
+//! let (here, there) = (memory.cell(0u64)?, memory.cell(3u64)?);
+//! let mut me = memory.thread()?;
+//! me.atomically(|tx| tx.or_else(|tx| take(tx, here), |tx| take(tx, there)))?;
+//! drop(me);
+//! assert_eq!((memory.get(here)?, memory.get(there)?), (0, 2));
+//! # Ok::<(), dstm::Error>(())
+//! ```
+//!
+//! No cell is made, and none is looked at from outside, while a thread has a part:
+//!
+//! ```compile_fail,E0502
+//! let mut memory = dstm::Memory::new(1).unwrap();
+//! let me = memory.thread().unwrap();
+//! memory.cell(0u64).unwrap();
+//! drop(me);
+//! ```
+//!
+//! A part is not shared by two threads, and does not outlive its memory:
+//!
+//! ```compile_fail,E0277
+//! fn shared<T: Sync>(_: &T) {}
+//! let memory = dstm::Memory::new(1).unwrap();
+//! shared(&memory.thread().unwrap());
+//! ```
+//!
+//! ```compile_fail,E0505
+//! let memory = dstm::Memory::new(1).unwrap();
+//! let me = memory.thread().unwrap();
+//! drop(memory);
+//! drop(me);
+//! ```
+//!
+//! A transaction is not begun in a transaction of the same part, and does not outlive its closure:
+//!
+//! ```compile_fail,E0499
+//! let mut memory = dstm::Memory::new(1).unwrap();
+//! let cell = memory.cell(0u64).unwrap();
+//! let mut me = memory.thread().unwrap();
+//! me.atomically(|_| { me.atomically(|tx| tx.get(cell)).ok(); Ok(()) }).unwrap();
+//! ```
+//!
+//! ```compile_fail,E0521
+//! let mut memory = dstm::Memory::new(1).unwrap();
+//! let mut me = memory.thread().unwrap();
+//! let mut out = None;
+//! me.atomically(|tx| { out = Some(tx); Ok(()) }).unwrap();
+//! ```
+//!
+//! A cell holds what two words can keep:
+//!
+//! ```compile_fail,E0277
+//! dstm::Memory::new(1).unwrap().cell(String::new()).unwrap();
+//! ```
+#![deny(unsafe_op_in_unsafe_fn, missing_docs)]
+
+use std::cell::Cell as Plain;
+use std::fmt::{Debug, Display, Formatter};
+use std::marker::PhantomData;
+use std::mem::forget;
+use std::ptr::null_mut;
+use std::sync::atomic::{AtomicU64, Ordering};
+use std::sync::{Mutex, MutexGuard, PoisonError};
+use std::thread::yield_now;
+
+// What `dstm.h` calls dstm_memory and dstm_thread.
+#[repr(C)]
+struct Handle {
+    at: *mut u8,
+    state: u64,
+}
+
+// SAFETY: what a handle stands for may be used by another thread, as `dstm.h` says, one call at a time.
+unsafe impl Send for Handle {}
+
+extern "C" {
+    fn dstmc_memory_new(memory: &mut Handle, threads: u32, engine: u32) -> u32;
+    fn dstmc_memory_free(memory: &mut Handle) -> u32;
+    fn dstmc_cell_new(memory: &mut Handle, low: u64, high: u64, cell: &mut u32) -> u32;
+    fn dstmc_peek(memory: &mut Handle, cell: u32, low: &mut u64, high: &mut u64) -> u32;
+    fn dstmc_thread_new(memory: &mut Handle, thread: &mut Handle) -> u32;
+    fn dstmc_thread_free(thread: &mut Handle) -> u32;
+    fn dstmc_begin(thread: &mut Handle) -> u32;
+    fn dstmc_get(thread: &mut Handle, cell: u32, low: &mut u64, high: &mut u64) -> u32;
+    fn dstmc_set(thread: &mut Handle, cell: u32, low: u64, high: u64) -> u32;
+    fn dstmc_commit(thread: &mut Handle) -> u32;
+    fn dstmc_abort(thread: &mut Handle) -> u32;
+    fn dstmc_look(thread: &mut Handle) -> u32;
+    fn dstmc_mark(thread: &mut Handle, mark: &mut u64) -> u32;
+    fn dstmc_undo_to(thread: &mut Handle, mark: u64) -> u32;
+}
+
+const CLOSED: Handle = Handle { at: null_mut(), state: 0 };
+const DONE: u32 = 0;
+const AGAIN: u32 = 1;
+const SPENT: u32 = 2;
+const OPEN: u32 = 5;
+const FULL: u32 = 9;
+const LOOKS: u32 = 1_048_576;
+
+/// Why a call failed.
+#[derive(Clone, Copy, Debug, PartialEq, Eq)]
+pub enum Error {
+    /// By DSTM: the attempts of the part are used up, and there is no other part to take.
+    Spent,
+    /// The cell is one of another memory.
+    Foreign,
+    /// The memory has as many cells, or as many parts, as it can have.
+    Full,
+    /// There is not enough memory.
+    Memory,
+    /// There have to be from 1 to 63 threads.
+    Range,
+    /// The closure retried, and nothing that it has read has changed for long.
+    Idle,
+}
+
+impl Display for Error {
+    fn fmt(&self, f: &mut Formatter<'_>) -> std::fmt::Result {
+        f.write_str(match self {
+            Error::Spent => "the attempts of the part are used up",
+            Error::Foreign => "the cell is one of another memory",
+            Error::Full => "the memory has no room for it",
+            Error::Memory => "out of memory",
+            Error::Range => "there have to be from 1 to 63 threads",
+            Error::Idle => "a transaction waited in vain",
+        })
+    }
+}
+
+impl std::error::Error for Error {}
+
+/// Why a closure cannot go on with its transaction: it hands it out, by `?`.
+#[derive(Clone, Copy, Debug, PartialEq, Eq)]
+pub enum Stop {
+    /// Another transaction came between: the closure is called again at once.
+    Again,
+    /// It is called again once something that it has read may have changed.
+    Retry,
+    /// The transaction is given up, and this is the answer.
+    Failed(Error),
+}
+
+fn error(code: u32) -> Error {
+    match code {
+        2 => Error::Spent,
+        3 => Error::Foreign,
+        9 => Error::Full,
+        10 => Error::Memory,
+        11 => Error::Range,
+        _ => unreachable!("libdstm answered {code}, which the types of this crate rule out"),
+    }
+}
+
+fn done(code: u32) -> Result<(), Error> {
+    if code == DONE {
+        Ok(())
+    } else {
+        Err(error(code))
+    }
+}
+
+fn stopped(code: u32) -> Result<(), Stop> {
+    match code {
+        DONE => Ok(()),
+        AGAIN => Err(Stop::Again),
+        code => Err(Stop::Failed(error(code))),
+    }
+}
+
+/// By which engine a memory works: by TL2; or by DSTM, under one of four contention managers. By DSTM nobody locks; a
+/// part has 65,536 attempts, and then another one takes its place.
+#[derive(Clone, Copy, Debug, PartialEq, Eq)]
+pub enum Engine {
+    /// TL2.
+    Tl2 = 0,
+    /// DSTM under Polka.
+    Polka = 1,
+    /// DSTM under Karma.
+    Karma = 2,
+    /// DSTM under Polite.
+    Polite = 3,
+    /// DSTM under Greedy.
+    Greedy = 4,
+}
+
+/// What a cell can hold: what two words of 64 bits keep.
+pub trait Word: Copy {
+    /// The words that keep it.
+    fn to_words(self) -> (u64, u64);
+    /// What such words keep.
+    fn from_words(low: u64, high: u64) -> Self;
+}
+
+macro_rules! numbers {
+    ($($t:ty)*) => {$(
+        impl Word for $t {
+            fn to_words(self) -> (u64, u64) { (self as u64, 0) }
+            fn from_words(low: u64, _: u64) -> Self { low as $t }
+        }
+    )*};
+}
+numbers!(u8 u16 u32 u64 usize i8 i16 i32 i64 isize);
+
+impl Word for bool {
+    fn to_words(self) -> (u64, u64) {
+        (self.into(), 0)
+    }
+    fn from_words(low: u64, _: u64) -> Self {
+        low != 0
+    }
+}
+
+impl Word for f64 {
+    fn to_words(self) -> (u64, u64) {
+        (self.to_bits(), 0)
+    }
+    fn from_words(low: u64, _: u64) -> Self {
+        f64::from_bits(low)
+    }
+}
+
+impl Word for u128 {
+    fn to_words(self) -> (u64, u64) {
+        (self as u64, (self >> 64) as u64)
+    }
+    fn from_words(low: u64, high: u64) -> Self {
+        u128::from(high) << 64 | u128::from(low)
+    }
+}
+
+impl Word for (u64, u64) {
+    fn to_words(self) -> (u64, u64) {
+        self
+    }
+    fn from_words(low: u64, high: u64) -> Self {
+        (low, high)
+    }
+}
+
+impl Word for Option<u64> {
+    fn to_words(self) -> (u64, u64) {
+        self.map_or((0, 0), |low| (low, 1))
+    }
+    fn from_words(low: u64, high: u64) -> Self {
+        (high == 1).then_some(low)
+    }
+}
+
+/// A cell of a memory: a name, copies of which name the same cell.
+pub struct Cell<T> {
+    memory: u64,
+    object: u32,
+    holds: PhantomData<fn() -> T>,
+}
+
+impl<T> Clone for Cell<T> {
+    fn clone(&self) -> Self {
+        *self
+    }
+}
+
+impl<T> Copy for Cell<T> {}
+
+impl<T> Debug for Cell<T> {
+    fn fmt(&self, f: &mut Formatter<'_>) -> std::fmt::Result {
+        write!(f, "Cell({}, {})", self.memory, self.object)
+    }
+}
+
+static MEMORIES: AtomicU64 = AtomicU64::new(1);
+
+/// Cells that the transactions of threads may change.
+pub struct Memory {
+    id: u64,
+    // One call on it at a time.
+    handle: Mutex<Handle>,
+}
+
+impl Memory {
+    /// A memory with no cell, in which so many threads, from 1 to 63, may have parts at once. It works by TL2.
+    pub fn new(threads: u32) -> Result<Memory, Error> {
+        Memory::with_engine(threads, Engine::Tl2)
+    }
+
+    /// The same by another engine.
+    pub fn with_engine(threads: u32, engine: Engine) -> Result<Memory, Error> {
+        let mut handle = CLOSED;
+        // SAFETY: as of each call below, the declarations fit `dstm.h`; a handle was zeros at first, is changed by
+        // the library alone, and lies behind one `&mut`; and no call comes from a signal handler.
+        done(unsafe { dstmc_memory_new(&mut handle, threads, engine as u32) })?;
+        Ok(Memory {
+            id: MEMORIES.fetch_add(1, Ordering::Relaxed),
+            handle: Mutex::new(handle),
+        })
+    }
+
+    fn lock(&self) -> MutexGuard<'_, Handle> {
+        self.handle.lock().unwrap_or_else(PoisonError::into_inner)
+    }
+
+    /// A new cell. There are at most 524,288.
+    pub fn cell<T: Word>(&mut self, value: T) -> Result<Cell<T>, Error> {
+        let (low, high) = value.to_words();
+        let mut object = 0;
+        done(unsafe { dstmc_cell_new(&mut self.lock(), low, high, &mut object) })?;
+        Ok(Cell {
+            memory: self.id,
+            object,
+            holds: PhantomData,
+        })
+    }
+
+    /// What a cell holds.
+    pub fn get<T: Word>(&mut self, cell: Cell<T>) -> Result<T, Error> {
+        if cell.memory != self.id {
+            return Err(Error::Foreign);
+        }
+        let (mut low, mut high) = (0, 0);
+        done(unsafe { dstmc_peek(&mut self.lock(), cell.object, &mut low, &mut high) })?;
+        Ok(T::from_words(low, high))
+    }
+
+    /// A part for a thread. `Full`: so many threads have parts; or 63 parts (by DSTM as many as threads) were given
+    /// out since a moment at which no thread had one.
+    pub fn thread(&self) -> Result<Thread<'_>, Error> {
+        let mut handle = CLOSED;
+        done(unsafe { dstmc_thread_new(&mut self.lock(), &mut handle) })?;
+        Ok(Thread {
+            memory: self,
+            handle,
+            alone: PhantomData,
+        })
+    }
+}
+
+impl Drop for Memory {
+    fn drop(&mut self) {
+        let _ = unsafe { dstmc_memory_free(&mut self.lock()) };
+    }
+}
+
+/// A thread's part in a memory. It may go to another thread, and is not shared.
+pub struct Thread<'m> {
+    memory: &'m Memory,
+    handle: Handle,
+    alone: PhantomData<Plain<()>>,
+}
+
+impl<'m> Thread<'m> {
+    /// Makes a transaction: calls the closure, and again, until what it did has taken effect as a whole. On a panic
+    /// of the closure it is given up.
+    pub fn atomically<R>(
+        &mut self,
+        mut f: impl FnMut(&mut Tx<'_, 'm>) -> Result<R, Stop>,
+    ) -> Result<R, Error> {
+        loop {
+            self.begin()?;
+            let mut tx = Tx { thread: self };
+            match f(&mut tx) {
+                Ok(answer) => match unsafe { dstmc_commit(&mut tx.thread.handle) } {
+                    DONE => {
+                        forget(tx);
+                        return Ok(answer);
+                    }
+                    AGAIN => forget(tx),
+                    code => return Err(error(code)),
+                },
+                Err(Stop::Again) => forget(tx),
+                Err(Stop::Retry) => {
+                    if !tx.is_woken() {
+                        return Err(Error::Idle);
+                    }
+                    forget(tx);
+                }
+                Err(Stop::Failed(error)) => return Err(error),
+            }
+        }
+    }
+
+    // Begins a transaction, or the next attempt at one that was lost. A part that is spent is replaced.
+    fn begin(&mut self) -> Result<(), Error> {
+        let mut code = unsafe { dstmc_begin(&mut self.handle) };
+        if code == OPEN {
+            // It is not lost: the closure has said so by itself.
+            let _ = unsafe { dstmc_abort(&mut self.handle) };
+            code = unsafe { dstmc_begin(&mut self.handle) };
+        }
+        if code == SPENT {
+            self.renew()?;
+            code = unsafe { dstmc_begin(&mut self.handle) };
+        }
+        done(code)
+    }
+
+    // Takes another part in the place of one that is spent.
+    fn renew(&mut self) -> Result<(), Error> {
+        let mut memory = self.memory.lock();
+        let _ = unsafe { dstmc_thread_free(&mut self.handle) };
+        match unsafe { dstmc_thread_new(&mut memory, &mut self.handle) } {
+            FULL => Err(Error::Spent),
+            code => done(code),
+        }
+    }
+}
+
+impl Drop for Thread<'_> {
+    fn drop(&mut self) {
+        let _ = unsafe { dstmc_thread_free(&mut self.handle) };
+    }
+}
+
+/// A transaction under way.
+pub struct Tx<'a, 'm> {
+    thread: &'a mut Thread<'m>,
+}
+
+impl Drop for Tx<'_, '_> {
+    fn drop(&mut self) {
+        let _ = unsafe { dstmc_abort(&mut self.thread.handle) };
+    }
+}
+
+impl<'m> Tx<'_, 'm> {
+    fn mine<T>(&self, cell: Cell<T>) -> Result<u32, Stop> {
+        if cell.memory == self.thread.memory.id {
+            Ok(cell.object)
+        } else {
+            Err(Stop::Failed(Error::Foreign))
+        }
+    }
+
+    // Waits until something that it has read may have changed, for so many looks at most.
+    fn is_woken(&mut self) -> bool {
+        (0..LOOKS).any(|_| {
+            yield_now();
+            unsafe { dstmc_look(&mut self.thread.handle) != DONE }
+        })
+    }
+
+    /// What a cell holds.
+    pub fn get<T: Word>(&mut self, cell: Cell<T>) -> Result<T, Stop> {
+        let object = self.mine(cell)?;
+        let (mut low, mut high) = (0, 0);
+        stopped(unsafe { dstmc_get(&mut self.thread.handle, object, &mut low, &mut high) })?;
+        Ok(T::from_words(low, high))
+    }
+
+    /// Puts a value into a cell.
+    pub fn set<T: Word>(&mut self, cell: Cell<T>, value: T) -> Result<(), Stop> {
+        let object = self.mine(cell)?;
+        let (low, high) = value.to_words();
+        stopped(unsafe { dstmc_set(&mut self.thread.handle, object, low, high) })
+    }
+
+    /// Changes what a cell holds, and answers what it held.
+    pub fn update<T: Word>(&mut self, cell: Cell<T>, f: impl FnOnce(T) -> T) -> Result<T, Stop> {
+        let had = self.get(cell)?;
+        self.set(cell, f(had))?;
+        Ok(had)
+    }
+
+    /// Has the closure called again once something that it has read may have changed.
+    pub fn retry<R>(&self) -> Result<R, Stop> {
+        Err(Stop::Retry)
+    }
+
+    /// Retries where the condition does not hold.
+    pub fn ensure(&self, holds: bool) -> Result<(), Stop> {
+        if holds {
+            Ok(())
+        } else {
+            self.retry()
+        }
+    }
+
+    /// Goes on by the first alternative, or by the second one where the first retries: what that has set is undone,
+    /// and what it has read stays read.
+    pub fn or_else<R>(
+        &mut self,
+        first: impl FnOnce(&mut Tx<'_, 'm>) -> Result<R, Stop>,
+        second: impl FnOnce(&mut Tx<'_, 'm>) -> Result<R, Stop>,
+    ) -> Result<R, Stop> {
+        let mut mark = 0;
+        stopped(unsafe { dstmc_mark(&mut self.thread.handle, &mut mark) })?;
+        match first(self) {
+            Err(Stop::Retry) => {
+                stopped(unsafe { dstmc_undo_to(&mut self.thread.handle, mark) })?;
+                second(self)
+            }
+            answer => answer,
+        }
+    }
+}

@@ -1,0 +1,212 @@
+use dstm::{Cell, Engine, Error, Memory, Stop, Thread, Tx};
+use std::panic::{catch_unwind, AssertUnwindSafe};
+use std::thread::scope;
+
+const ENGINES: [Engine; 5] = [Engine::Tl2, Engine::Polka, Engine::Karma, Engine::Polite, Engine::Greedy];
+
+#[test]
+fn four_threads_count() {
+    for engine in ENGINES {
+        let mut memory = Memory::with_engine(4, engine).unwrap();
+        let counter = memory.cell(0u64).unwrap();
+        scope(|s| {
+            for _ in 0..4 {
+                let mut me = memory.thread().unwrap();
+                s.spawn(move || {
+                    for _ in 0..5_000 {
+                        me.atomically(|tx| tx.update(counter, |n| n + 1)).unwrap();
+                    }
+                });
+            }
+        });
+        assert_eq!(memory.get(counter), Ok(20_000));
+    }
+}
+
+#[test]
+fn a_part_of_tl2_has_no_end_and_a_spent_one_is_renewed() {
+    for engine in [Engine::Tl2, Engine::Polka] {
+        let mut memory = Memory::with_engine(3, engine).unwrap();
+        let counter = memory.cell(0u64).unwrap();
+        let mut me = memory.thread().unwrap();
+        for _ in 0..300_000 {
+            me.atomically(|tx| tx.update(counter, |n| n + 1)).unwrap();
+        }
+        drop(me);
+        assert_eq!(memory.get(counter), Ok(300_000));
+    }
+}
+
+#[test]
+fn the_total_is_always_right() {
+    for engine in ENGINES {
+        let mut memory = Memory::with_engine(5, engine).unwrap();
+        let accounts: Vec<Cell<u64>> = (0..16).map(|_| memory.cell(100u64).unwrap()).collect();
+        let accounts = &accounts[..];
+        scope(|s| {
+            for n in 0..4u64 {
+                let mut me = memory.thread().unwrap();
+                s.spawn(move || {
+                    for i in 0..2_000 {
+                        let (from, to) = ((i * 7 + n) as usize % 16, (i * 11 + 3 * n) as usize % 16);
+                        let moved = me.atomically(|tx| {
+                            let has = tx.get(accounts[from])?;
+                            if has >= 5 {
+                                tx.set(accounts[from], has - 5)?;
+                                tx.update(accounts[to], |n| n + 5)?;
+                            }
+                            Ok(())
+                        });
+                        assert_eq!(moved, Ok(()));
+                    }
+                });
+            }
+            let mut me = memory.thread().unwrap();
+            s.spawn(move || {
+                for _ in 0..200 {
+                    let all = me.atomically(|tx| {
+                        let mut all = 0;
+                        for account in accounts {
+                            all += tx.get(*account)?;
+                        }
+                        Ok(all)
+                    });
+                    assert_eq!(all, Ok(1600));
+                }
+            });
+        });
+    }
+}
+
+fn put(tx: &mut Tx<'_, '_>, slot: Cell<Option<u64>>, n: u64) -> Result<(), Stop> {
+    let empty = tx.get(slot)?.is_none();
+    tx.ensure(empty)?;
+    tx.set(slot, Some(n))
+}
+
+fn take(tx: &mut Tx<'_, '_>, slot: Cell<Option<u64>>) -> Result<u64, Stop> {
+    match tx.get(slot)? {
+        None => tx.retry(),
+        Some(n) => {
+            tx.set(slot, None)?;
+            Ok(n)
+        }
+    }
+}
+
+#[test]
+fn one_waits_for_the_other() {
+    for engine in ENGINES {
+        let mut memory = Memory::with_engine(2, engine).unwrap();
+        let slot = memory.cell(None::<u64>).unwrap();
+        scope(|s| {
+            let (mut a, mut b) = (memory.thread().unwrap(), memory.thread().unwrap());
+            s.spawn(move || (0..1_000).for_each(|n| a.atomically(|tx| put(tx, slot, n)).unwrap()));
+            s.spawn(move || (0..1_000).for_each(|n| assert_eq!(b.atomically(|tx| take(tx, slot)), Ok(n))));
+        });
+    }
+}
+
+#[test]
+fn what_the_first_alternative_has_set_is_undone() {
+    for engine in ENGINES {
+        let mut memory = Memory::with_engine(1, engine).unwrap();
+        let (a, b) = (memory.cell((1u64, 2u64)).unwrap(), memory.cell(5i64).unwrap());
+        let mut me = memory.thread().unwrap();
+        let went = me.atomically(|tx| {
+            tx.set(b, -6)?;
+            tx.or_else(
+                |tx| {
+                    tx.set(a, (7, 8))?;
+                    tx.set(b, -9)?;
+                    tx.or_else(
+                        |tx| {
+                            tx.set(a, (0, 0))?;
+                            tx.retry()
+                        },
+                        |tx| {
+                            assert_eq!((tx.get(a)?, tx.get(b)?), ((7, 8), -9));
+                            tx.retry::<u8>()
+                        },
+                    )
+                },
+                |tx| {
+                    assert_eq!((tx.get(a)?, tx.get(b)?), ((1, 2), -6));
+                    Ok(2)
+                },
+            )
+        });
+        assert_eq!(went, Ok(2));
+        drop(me);
+        assert_eq!((memory.get(a), memory.get(b)), (Ok((1, 2)), Ok(-6)));
+    }
+}
+
+#[test]
+fn a_closure_that_says_again_is_called_again() {
+    let mut memory = Memory::new(1).unwrap();
+    let cell = memory.cell(0u64).unwrap();
+    let mut me = memory.thread().unwrap();
+    let mut calls = 0;
+    let ended = me.atomically(|tx| {
+        calls += 1;
+        tx.update(cell, |n| n + 1)?;
+        if calls < 4 { Err(Stop::Again) } else { Ok(calls) }
+    });
+    assert_eq!(ended, Ok(4));
+    drop(me);
+    assert_eq!(memory.get(cell), Ok(1));
+}
+
+#[test]
+fn misuse_has_its_error() {
+    assert_eq!(Memory::new(0).err(), Some(Error::Range));
+    assert_eq!(Memory::new(64).err(), Some(Error::Range));
+    let mut memory = Memory::new(1).unwrap();
+    let mut other = Memory::new(1).unwrap();
+    let (cell, foreign) = (memory.cell(1u64).unwrap(), other.cell(2u64).unwrap());
+    assert_eq!(memory.get(foreign), Err(Error::Foreign));
+    let mut me = memory.thread().unwrap();
+    assert_eq!(memory.thread().err(), Some(Error::Full));
+    assert_eq!(me.atomically(|tx| tx.get(foreign)), Err(Error::Foreign));
+    assert_eq!(me.atomically(|tx| tx.get(cell)), Ok(1));
+}
+
+#[test]
+fn a_panic_gives_its_transaction_up() {
+    let mut memory = Memory::new(1).unwrap();
+    let cell = memory.cell(1u64).unwrap();
+    let mut me = memory.thread().unwrap();
+    let panicked = catch_unwind(AssertUnwindSafe(|| {
+        me.atomically(|tx| -> Result<(), Stop> {
+            tx.set(cell, 2)?;
+            panic!("in the middle")
+        })
+    }));
+    assert!(panicked.is_err());
+    assert_eq!(me.atomically(|tx| tx.get(cell)), Ok(1));
+}
+
+#[test]
+fn words_keep_what_they_are_given() {
+    let mut memory = Memory::new(1).unwrap();
+    let (f, b, i, w) = (
+        memory.cell(-1.5f64).unwrap(),
+        memory.cell(true).unwrap(),
+        memory.cell(i8::MIN).unwrap(),
+        memory.cell(u128::MAX - 7).unwrap(),
+    );
+    assert_eq!((memory.get(f), memory.get(b)), (Ok(-1.5), Ok(true)));
+    assert_eq!((memory.get(i), memory.get(w)), (Ok(i8::MIN), Ok(u128::MAX - 7)));
+}
+
+#[test]
+fn types_cross_as_they_may() {
+    fn send<T: Send>() {}
+    fn sync<T: Sync>() {}
+    send::<Memory>();
+    sync::<Memory>();
+    send::<Thread<'_>>();
+    send::<Cell<u64>>();
+    sync::<Cell<u64>>();
+}

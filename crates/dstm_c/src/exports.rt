@@ -1,0 +1,400 @@
+// What C calls.
+ghost use Rattle.std.specs.Prelude.{◌≡◌, ◌≢◌, [], MatchOption, None, Some};
+ghost use Rattle.dstm_attempts.specs.Attempts.{AddsNothing, Begins, Exchanges, Finds, SetsNothing, TakesEffect};
+ghost use Rattle.dstm_handles.specs.Held.{IfOpened, IfPart, OfMemory, OfPart, Opened};
+ghost use Rattle.dstm_handles.specs.Memories.{Grows, HasSettled};
+ghost use Rattle.dstm_handles.specs.Threads.{starting};
+ghost use Rattle.dstm_handles.specs.declared.code.Code.TheVariants.{Done, Taken};
+ghost use Rattle.dstm_model.specs.Map.{value_at};
+ghost use Rattle.dstm_model.specs.declared.value.Val.{Val};
+
+use dstm_core::Manager;
+use dstm_handles::{Code, Engine, Handle, Held, Memory, free};
+use dstm_model::{AnyLaw, Law, Val};
+use std::alloc::Global;
+use std::mem;
+
+// What `dstmc_version` answers: 10,000 for each version, 100 for each addition to it, and 1 for each mending.
+const VERSION: u32 = 10_000;
+
+// The number of a code.
+fn number(code: Code) -> u32
+    ensures done { code ≡ Done → result ≡ 0 }
+    ensures other { code ≢ Done → result ≢ 0 }
+{
+    match code {
+        Code::Done => 0,
+        Code::Again => 1,
+        Code::Spent => 2,
+        Code::Foreign => 3,
+        Code::Idle => 4,
+        Code::Open => 5,
+        Code::Closed => 6,
+        Code::Taken => 7,
+        Code::Busy => 8,
+        Code::Full => 9,
+        Code::Memory => 10,
+        Code::Range => 11,
+    }
+}
+
+// The engine of a number.
+fn engine_of(number: u32) -> Option<Engine> {
+    match number {
+        0 => Some(Engine::Tl2),
+        1 => Some(Engine::Dstm(Manager::Polka)),
+        2 => Some(Engine::Dstm(Manager::Karma)),
+        3 => Some(Engine::Dstm(Manager::Polite)),
+        4 => Some(Engine::Dstm(Manager::Greedy)),
+        _ => None,
+    }
+}
+
+// Takes what a handle stands for out of it, which is closed then.
+#[inline]
+fn take(alloc: Global, handle: &mut Handle) -> Option<Box<Held>>
+    ensures held { MatchOption result (handle.old.held ≡ None) (λ held. handle.old.held ≡ Some held.value) }
+    ensures closed { handle.new.held ≡ None }
+{
+    mem::replace(handle, Handle::closed(alloc)).into_held()
+}
+
+// Puts a value where a pointer leads.
+#[inline]
+fn put(value: Val, low: &mut u64, high: &mut u64)
+    ensures low { low.new ≡ value.low }
+    ensures high { high.new ≡ value.high }
+{
+    *low = value.low;
+    *high = value.high;
+}
+
+// Opens a closed handle.
+fn open_handle(alloc: Global, handle: &mut Handle, held: Held) -> Code
+    ensures opened { result ≡ Done → (handle.old.held ≡ None) × (handle.new.held ≡ Some held) }
+    ensures kept { result ≢ Done → handle.new.held ≡ handle.old.held }
+    ensures taken { handle.old.held ≢ None → result ≡ Taken }
+{
+    match take(alloc, handle) {
+        Some(had) => {
+            *handle = Handle::of(had);
+            Code::Taken
+        }
+        None => match Box::new(alloc, held) {
+            Ok(made) => {
+                *handle = Handle::of(made);
+                Code::Done
+            }
+            Err(_) => Code::Memory,
+        },
+    }
+}
+
+/// Which version the library is.
+#[unsafe(no_mangle)]
+pub extern "C" fn dstmc_version() -> u32 {
+    VERSION
+}
+
+/// Opens a memory with no cell, in which so many threads may have parts at once.
+#[unsafe(no_mangle)]
+pub extern "C" fn dstmc_memory_new(
+    alloc: Global,
+    memory: &mut Handle,
+    threads: u32,
+    engine: u32,
+) -> u32 {
+    let Some(engine) = engine_of(engine) else {
+        return number(Code::Range);
+    };
+    match Memory::new(alloc, threads, engine) {
+        Ok(made) => number(open_handle(alloc, memory, Held::Memory(made))),
+        Err(code) => number(code),
+    }
+}
+
+/// Closes a memory. Parts that threads have stay good.
+#[unsafe(no_mangle)]
+pub extern "C" fn dstmc_memory_free(alloc: Global, memory: &mut Handle) -> u32
+    ensures closed { result ≡ 0 → memory.new.held ≡ None }
+    ensures kept { result ≢ 0 → memory.new.held ≡ memory.old.held }
+{
+    match take(alloc, memory) {
+        None => number(Code::Closed),
+        Some(held) => {
+            if held.is_memory() {
+                free(held);
+                return number(Code::Done);
+            }
+            *memory = Handle::of(held);
+            number(Code::Closed)
+        }
+    }
+}
+
+/// Makes a cell, while no thread has a part.
+#[tactic(auto, using(crate::proofs::Opening::opened))]
+#[unsafe(no_mangle)]
+pub extern "C" fn dstmc_cell_new(
+    alloc: Global,
+    memory: &mut Handle,
+    low: u64,
+    high: u64,
+    cell: &mut u32,
+) -> u32
+    ensures made { result ≡ 0 → Opened (OfMemory (λ old new. Grows ⟦<AnyLaw as Law>⟧.holds old new
+        (record { low = low; high = high }) cell.new)) memory.old.held memory.new.held }
+{
+    match take(alloc, memory) {
+        None => number(Code::Closed),
+        Some(held) => {
+            let mut held = held;
+            let made = held.cell(Val { low, high });
+            *memory = Handle::of(held);
+            match made {
+                Ok(made) => {
+                    *cell = made;
+                    number(Code::Done)
+                }
+                Err(code) => number(code),
+            }
+        }
+    }
+}
+
+/// Tells what a cell holds, while no thread has a part.
+#[tactic(auto, using(crate::proofs::Opening::opened))]
+#[unsafe(no_mangle)]
+pub extern "C" fn dstmc_peek(
+    alloc: Global,
+    memory: &mut Handle,
+    cell: u32,
+    low: &mut u64,
+    high: &mut u64,
+) -> u32
+    ensures value { result ≡ 0 → Opened (OfMemory (λ old new. HasSettled ⟦<AnyLaw as Law>⟧.holds old new.values.items
+        × (value_at new.values.items cell ≡ record { low = low.new; high = high.new })))
+        memory.old.held memory.new.held }
+{
+    match take(alloc, memory) {
+        None => number(Code::Closed),
+        Some(held) => {
+            let mut held = held;
+            let value = held.peek(cell);
+            *memory = Handle::of(held);
+            match value {
+                Ok(value) => {
+                    put(value, low, high);
+                    number(Code::Done)
+                }
+                Err(code) => number(code),
+            }
+        }
+    }
+}
+
+/// Opens a part for a thread.
+#[unsafe(no_mangle)]
+pub extern "C" fn dstmc_thread_new(alloc: Global, memory: &mut Handle, thread: &mut Handle) -> u32 {
+    if let Some(had) = take(alloc, thread) {
+        *thread = Handle::of(had);
+        return number(Code::Taken);
+    }
+    match take(alloc, memory) {
+        None => number(Code::Closed),
+        Some(held) => {
+            let mut held = held;
+            let made = held.part();
+            *memory = Handle::of(held);
+            match made {
+                Ok(made) => number(open_handle(alloc, thread, Held::Thread(made))),
+                Err(code) => number(code),
+            }
+        }
+    }
+}
+
+/// Gives a thread's part back. A transaction that is under way is given up first.
+#[unsafe(no_mangle)]
+pub extern "C" fn dstmc_thread_free(alloc: Global, thread: &mut Handle) -> u32 {
+    match take(alloc, thread) {
+        None => number(Code::Closed),
+        Some(held) => {
+            let mut held = held;
+            if held.is_memory() {
+                *thread = Handle::of(held);
+                return number(Code::Closed);
+            }
+            let _code = held.abort();
+            free(held);
+            number(Code::Done)
+        }
+    }
+}
+
+/// Begins a transaction, or the next attempt at one that was lost.
+#[tactic(auto, using(crate::proofs::Opening::opened, crate::proofs::Opening::if_opened, crate::proofs::Opening::if_closed))]
+#[unsafe(no_mangle)]
+pub extern "C" fn dstmc_begin(alloc: Global, thread: &mut Handle) -> u32
+    ensures begins { result ≡ 0 → Opened (OfPart (λ old new. Begins ⟦<AnyLaw as Law>⟧.holds (starting old) new.attempts.caller))
+        thread.old.held thread.new.held }
+    ensures nothing { IfOpened (IfPart (λ old new. AddsNothing old.attempts.caller new.attempts.caller)) thread.old.held thread.new.held }
+{
+    match take(alloc, thread) {
+        None => number(Code::Closed),
+        Some(held) => {
+            let mut held = held;
+            let code = held.begin();
+            *thread = Handle::of(held);
+            number(code)
+        }
+    }
+}
+
+/// Tells what a cell holds.
+#[tactic(auto, using(crate::proofs::Opening::opened, crate::proofs::Opening::if_opened, crate::proofs::Opening::if_closed))]
+#[unsafe(no_mangle)]
+pub extern "C" fn dstmc_get(
+    alloc: Global,
+    thread: &mut Handle,
+    cell: u32,
+    low: &mut u64,
+    high: &mut u64,
+) -> u32
+    ensures finds { result ≡ 0 → Opened (OfPart (λ old new. Finds ⟦<AnyLaw as Law>⟧.holds old.attempts.caller
+        new.attempts.caller cell (record { low = low.new; high = high.new }))) thread.old.held thread.new.held }
+    ensures unset { result ≢ 0 → IfOpened (IfPart (λ old new. SetsNothing ⟦<AnyLaw as Law>⟧.holds old.attempts.caller
+        new.attempts.caller)) thread.old.held thread.new.held }
+{
+    match take(alloc, thread) {
+        None => number(Code::Closed),
+        Some(held) => {
+            let mut held = held;
+            let value = held.get(cell);
+            *thread = Handle::of(held);
+            match value {
+                Ok(value) => {
+                    put(value, low, high);
+                    number(Code::Done)
+                }
+                Err(code) => number(code),
+            }
+        }
+    }
+}
+
+/// Puts a value into a cell.
+#[tactic(auto, using(crate::proofs::Opening::opened, crate::proofs::Opening::if_opened, crate::proofs::Opening::if_closed))]
+#[unsafe(no_mangle)]
+pub extern "C" fn dstmc_set(
+    alloc: Global,
+    thread: &mut Handle,
+    cell: u32,
+    low: u64,
+    high: u64,
+) -> u32
+    ensures puts { result ≡ 0 → Opened (OfPart (λ old new. (had : Val) × Exchanges ⟦<AnyLaw as Law>⟧.holds old.attempts.caller
+        new.attempts.caller cell had (record { low = low; high = high }))) thread.old.held thread.new.held }
+    ensures unset { result ≢ 0 → IfOpened (IfPart (λ old new. SetsNothing ⟦<AnyLaw as Law>⟧.holds old.attempts.caller
+        new.attempts.caller)) thread.old.held thread.new.held }
+{
+    match take(alloc, thread) {
+        None => number(Code::Closed),
+        Some(held) => {
+            let mut held = held;
+            let had = held.set(cell, Val { low, high });
+            *thread = Handle::of(held);
+            match had {
+                Ok(_had) => number(Code::Done),
+                Err(code) => number(code),
+            }
+        }
+    }
+}
+
+/// Commits the transaction.
+#[tactic(auto, using(crate::proofs::Opening::opened, crate::proofs::Opening::if_opened, crate::proofs::Opening::if_closed))]
+#[unsafe(no_mangle)]
+pub extern "C" fn dstmc_commit(alloc: Global, thread: &mut Handle) -> u32
+    ensures takes { result ≡ 0 → Opened (OfPart (λ old new. TakesEffect ⟦<AnyLaw as Law>⟧.holds old.attempts.caller
+        new.attempts.caller)) thread.old.held thread.new.held }
+    ensures nothing { result ≢ 0 → IfOpened (IfPart (λ old new. AddsNothing old.attempts.caller new.attempts.caller)) thread.old.held thread.new.held }
+{
+    match take(alloc, thread) {
+        None => number(Code::Closed),
+        Some(held) => {
+            let mut held = held;
+            let code = held.commit();
+            *thread = Handle::of(held);
+            number(code)
+        }
+    }
+}
+
+/// Gives the transaction up.
+#[tactic(auto, using(crate::proofs::Opening::if_opened, crate::proofs::Opening::if_closed))]
+#[unsafe(no_mangle)]
+pub extern "C" fn dstmc_abort(alloc: Global, thread: &mut Handle) -> u32
+    ensures nothing { IfOpened (IfPart (λ old new. AddsNothing old.attempts.caller new.attempts.caller)) thread.old.held thread.new.held }
+{
+    match take(alloc, thread) {
+        None => number(Code::Closed),
+        Some(held) => {
+            let mut held = held;
+            let code = held.abort();
+            *thread = Handle::of(held);
+            number(code)
+        }
+    }
+}
+
+/// Looks whether something that the transaction has read may have changed.
+#[tactic(auto, using(crate::proofs::Opening::if_opened, crate::proofs::Opening::if_closed))]
+#[unsafe(no_mangle)]
+pub extern "C" fn dstmc_look(alloc: Global, thread: &mut Handle) -> u32
+    ensures nothing { IfOpened (IfPart (λ old new. AddsNothing old.attempts.caller new.attempts.caller)) thread.old.held thread.new.held }
+{
+    match take(alloc, thread) {
+        None => number(Code::Closed),
+        Some(held) => {
+            let mut held = held;
+            let code = held.look();
+            *thread = Handle::of(held);
+            number(code)
+        }
+    }
+}
+
+/// Marks what the transaction has set.
+#[unsafe(no_mangle)]
+pub extern "C" fn dstmc_mark(alloc: Global, thread: &mut Handle, mark: &mut u64) -> u32 {
+    match take(alloc, thread) {
+        None => number(Code::Closed),
+        Some(held) => {
+            let mut held = held;
+            let made = held.mark();
+            *thread = Handle::of(held);
+            match made {
+                Ok(made) => {
+                    *mark = made;
+                    number(Code::Done)
+                }
+                Err(code) => number(code),
+            }
+        }
+    }
+}
+
+/// Undoes what was set since a mark.
+#[unsafe(no_mangle)]
+pub extern "C" fn dstmc_undo_to(alloc: Global, thread: &mut Handle, mark: u64) -> u32 {
+    match take(alloc, thread) {
+        None => number(Code::Closed),
+        Some(held) => {
+            let mut held = held;
+            let code = held.undo_to(mark);
+            *thread = Handle::of(held);
+            number(code)
+        }
+    }
+}

@@ -1,0 +1,5 @@
+mod Calling
+mod Crossing
+mod Founding
+pub mod Handles
+mod Undoing

@@ -1,0 +1,5 @@
+pub mod Held
+pub mod Memories
+pub mod Owned
+pub mod Threads
+pub mod Undoing

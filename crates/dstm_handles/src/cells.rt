@@ -1,0 +1,300 @@
+// The calls of a memory.
+ghost use Rattle.std.specs.Prelude.{◌≡◌, ◌≢◌, ◌<◌, ◌≤◌, List, [], length, false, None, IfErr, IfOk, OnOk};
+ghost use Rattle.dstm_attempts.specs.Attempts.{AddsNothing, IsUntouched, Keeps, MayBegin, objects_of};
+ghost use Rattle.dstm_model.specs.Map.{value_at};
+ghost use Rattle.dstm_model.specs.declared.value.AnyLaw.{AnyLaw as AnyLawValue};
+ghost use Rattle.dstm_model.specs.declared.value.Val.{Val};
+ghost use Rattle.dstm_tables.specs.Callers.{home_of};
+ghost use Rattle.dstm_tables.specs.Founders.{founded};
+ghost use Rattle.dstm_tables.specs.Tables.{objects_there};
+ghost use Rattle.dstm_tables.specs.declared.tables.Caller.{Caller};
+ghost use Rattle.dstm_handles.specs.Memories.{GivesPart, Grows, HasSettled, IsAt, ReadsAll, StartsWith, table_at};
+ghost use Rattle.dstm_handles.specs.declared.code.Code.TheVariants.{Done, Range};
+
+use crate::code::Code;
+use crate::engine::Engine;
+use crate::memory::{Home, Memory};
+use crate::thread::Thread;
+use dstm_core::Shape;
+use dstm_engine::{MOST_OBJECTS, shape_for};
+use dstm_model::{AnyLaw, Law, Val};
+use dstm_tables::{EnrolError, Founder, Table, Zeros, make_dstm, make_tl2};
+use std::alloc::{AllocError, Global};
+use std::sync::Arc;
+
+/// The most cells of a memory.
+pub const MOST_CELLS: u32 = MOST_OBJECTS;
+
+/// The most threads that have parts in a memory at once.
+pub const MOST_THREADS: u32 = 63;
+
+// How often all cells are read together, when nobody sets them any more.
+const READINGS: u32 = 64;
+
+// By TL2, how many parts a table has, with the memory's own, and how many attempts each of them.
+const CALLERS: u32 = 64;
+
+const ATTEMPTS: u64 = 18_014_398_509_481_984;
+
+impl Memory {
+    /// A memory with no cell, in which so many threads, from 1 to 63, may have parts at once.
+    pub fn new(alloc: Global, threads: u32, engine: Engine) -> Result<Memory, Code>
+        ensures empty { IfOk result (λ memory. (memory.values.items ≡ []) × (memory.home ≡ None)) }
+        ensures by { IfOk result (λ memory. (memory.engine ≡ engine) × (memory.threads ≡ threads)) }
+        ensures range { OnOk result ((1 ≤ threads) × (threads ≤ 63)) }
+        ensures fails { IfErr result (λ why. why ≡ Range) }
+    {
+        if threads == 0 || threads > MOST_THREADS {
+            return Err(Code::Range);
+        }
+        Ok(Memory {
+            alloc,
+            engine,
+            threads,
+            values: Vec::new(alloc),
+            home: None,
+            seeds: 0,
+        })
+    }
+
+    /// A new cell. No thread may have a part then.
+    pub fn cell(&mut self, value: Val) -> Result<u32, Code>
+        ensures made { IfOk result (Grows ⟦<AnyLaw as Law>⟧.holds self.old self.new value) }
+        ensures home { OnOk result (self.new.home ≡ None) }
+        ensures fails { IfErr result (λ why. why ≢ Done) }
+    {
+        self.settle()?;
+        if self.values.len() >= MOST_CELLS as usize {
+            return Err(Code::Full);
+        }
+        let cell = self.values.len() as u32;
+        match self.values.push(value) {
+            Ok(()) => Ok(cell),
+            Err(_) => Err(Code::Memory),
+        }
+    }
+
+    /// What a cell holds, while no thread has a part.
+    pub fn peek(&mut self, cell: u32) -> Result<Val, Code>
+        ensures settled { OnOk result (HasSettled ⟦<AnyLaw as Law>⟧.holds self.old self.new.values.items) }
+        ensures exists { OnOk result (cell < length self.new.values.items) }
+        ensures value { IfOk result (λ value. value ≡ value_at self.new.values.items cell) }
+        ensures fails { IfErr result (λ why. why ≢ Done) }
+    {
+        self.settle()?;
+        match self.values.get(cell as usize) {
+            Some(value) => Ok(*value),
+            None => Err(Code::Foreign),
+        }
+    }
+
+    /// A part for a thread. Where the table has none left to give out, and all that it gave out are back, there is a
+    /// new table.
+    pub fn thread(&mut self) -> Result<Thread, Code>
+        ensures gives { IfOk result (GivesPart ⟦<AnyLaw as Law>⟧.holds self.old) }
+        ensures idle { IfOk result (λ part. part.begun ≡ false) }
+        ensures fails { IfErr result (λ why. why ≢ Done) }
+    {
+        match self.given() {
+            Err(Code::Full) => {}
+            made => return made,
+        }
+        match self.settle() {
+            Ok(()) => self.begun(),
+            Err(Code::Busy) => Err(Code::Full),
+            Err(code) => Err(code),
+        }
+    }
+
+    /// Takes the values of the cells back from the threads: none may have a part. The next part is one of a new
+    /// table, which has these values.
+    pub fn settle(&mut self) -> Result<(), Code>
+        ensures settled { OnOk result (HasSettled ⟦<AnyLaw as Law>⟧.holds self.old self.new.values.items) }
+        ensures home { OnOk result (self.new.home ≡ None) }
+        ensures kept { IfErr result (λ why. self.new.values.items ≡ self.old.values.items) }
+        ensures fails { IfErr result (λ why. why ≢ Done) }
+        ensures same { (self.new.engine ≡ self.old.engine) × (self.new.threads ≡ self.old.threads) }
+    {
+        match &mut self.home {
+            None => return Ok(()),
+            Some(home) => {
+                if home.parts_out() != 0 {
+                    return Err(Code::Busy);
+                }
+                self.values = home.values(self.alloc, self.values.len() as u32)?;
+            }
+        }
+        self.home = None;
+        Ok(())
+    }
+
+    // A part of the table that is there, if one is.
+    fn given(&mut self) -> Result<Thread, Code>
+        ensures table { IfOk result (λ part. IsAt self.old.home (home_of part.attempts.caller)) }
+        ensures idle { IfOk result (λ part. part.begun ≡ false) }
+        ensures fails { IfErr result (λ why. why ≢ Done) }
+        ensures same { (values : List Val) → HasSettled ⟦<AnyLaw as Law>⟧.holds self.new values
+            → HasSettled ⟦<AnyLaw as Law>⟧.holds self.old values }
+    {
+        match &mut self.home {
+            None => Err(Code::Full),
+            Some(home) => {
+                if home.parts_out() >= self.threads as usize {
+                    return Err(Code::Full);
+                }
+                self.seeds = self.seeds.wrapping_add(1);
+                home.part(self.alloc, self.seeds)
+            }
+        }
+    }
+
+    // A part of a new table.
+    fn begun(&mut self) -> Result<Thread, Code>
+        ensures starts { IfOk result (λ part. StartsWith self.old.values.items (home_of part.attempts.caller)) }
+        ensures idle { IfOk result (λ part. part.begun ≡ false) }
+        ensures fails { IfErr result (λ why. why ≢ Done) }
+    {
+        let mut home = self.found()?;
+        let part = home.part(self.alloc, 1)?;
+        self.home = Some(home);
+        Ok(part)
+    }
+
+    // A table that has the values of the cells.
+    fn found(&self) -> Result<Home, Code>
+        ensures starts { IfOk result (λ home. StartsWith self.now.values.items (table_at home)) }
+        ensures fails { IfErr result (λ why. why ≢ Done) }
+    {
+        let Ok(start) = Vec::from_slice(self.alloc, &self.values) else {
+            return Err(Code::Memory);
+        };
+        let Ok((table, mut founder)) = make(self.alloc, self.engine, start, self.threads) else {
+            return Err(Code::Memory);
+        };
+        let Ok(caller) = founder.caller(self.alloc, &table, 0) else {
+            return Err(Code::Memory);
+        };
+        let Ok(table) = Arc::new(self.alloc, table) else {
+            return Err(Code::Memory);
+        };
+        let Ok(shared) = Arc::try_clone(&table) else {
+            return Err(Code::Memory);
+        };
+        Ok(Home {
+            table,
+            founder,
+            last: Thread::of(self.alloc, shared, caller),
+        })
+    }
+}
+
+impl Home {
+    // How many parts are out.
+    fn parts_out(&self) -> usize {
+        Arc::strong_count(&self.table).saturating_sub(2)
+    }
+
+    fn part(&mut self, alloc: Global, seed: u64) -> Result<Thread, Code>
+        ensures table { table_at self.new ≡ table_at self.old }
+        ensures own { self.new.last ≡ self.old.last }
+        ensures part { IfOk result (λ part. home_of part.attempts.caller ≡ table_at self.old) }
+        ensures idle { IfOk result (λ part. part.begun ≡ false) }
+        ensures fails { IfErr result (λ why. why ≢ Done) }
+    {
+        let Ok(table) = Arc::try_clone(&self.table) else {
+            return Err(Code::Memory);
+        };
+        match self.founder.caller(alloc, &self.table, seed) {
+            Ok(caller) => Ok(Thread::of(alloc, table, caller)),
+            Err(EnrolError::Memory(_)) => Err(Code::Memory),
+            Err(EnrolError::Full) => Err(Code::Full),
+        }
+    }
+
+    // The values of all cells, so many.
+    fn values(&mut self, alloc: Global, cells: u32) -> Result<Vec<Val>, Code>
+        requires all { cells ≡ objects_there (table_at self.old) }
+        ensures table { table_at self.new ≡ table_at self.old }
+        ensures size { IfOk result (λ values. length values.items ≡ cells) }
+        ensures reads { IfOk result (λ values.
+            ReadsAll ⟦<AnyLaw as Law>⟧.holds self.old.last.attempts.caller values.items) }
+        ensures fails { IfErr result (λ why. why ≢ Done) }
+    {
+        for _reading in 0..READINGS {
+            let _code = self.last.abort();
+            match reading(alloc, &mut self.last, cells) {
+                Err(Code::Again) => {}
+                read => return read,
+            }
+        }
+        Err(Code::Busy)
+    }
+}
+
+// A table of this engine that has these values, for so many threads.
+fn make(
+    alloc: Global,
+    engine: Engine,
+    start: Vec<Val>,
+    threads: u32,
+) -> Result<(Table<AnyLaw>, Founder<AnyLaw>), AllocError>
+    requires few { length start.items ≤ 524288 }
+    requires threads { (1 ≤ threads) × (threads ≤ 63) }
+    ensures start { IfOk result (λ t. StartsWith start.items t.0) }
+    ensures founder { IfOk result (λ t. t.1 ≡ founded t.0) }
+{
+    match engine {
+        Engine::Tl2 => make_tl2(alloc, start, CALLERS, ATTEMPTS, AnyLaw),
+        Engine::Dstm(manager) => {
+            let shape = Shape {
+                manager,
+                ..shape_for(start.len() as u32, threads + 1)
+            };
+            make_dstm(alloc, &mut Zeros::new(alloc), start, shape, AnyLaw)
+        }
+    }
+}
+
+// The values of so many cells, by one attempt.
+fn reading(alloc: Global, last: &mut Thread, cells: u32) -> Result<Vec<Val>, Code>
+    requires all { cells ≡ objects_of last.old.attempts.caller }
+    ensures home { home_of last.new.attempts.caller ≡ home_of last.old.attempts.caller }
+    ensures size { IfOk result (λ values. length values.items ≡ cells) }
+    ensures reads { IfOk result (λ values. (k : Caller AnyLawValue) → AddsNothing k last.old.attempts.caller
+        → ReadsAll ⟦<AnyLaw as Law>⟧.holds k values.items) }
+    ensures nothing { IfErr result (λ why. AddsNothing last.old.attempts.caller last.new.attempts.caller) }
+    ensures fails { IfErr result (λ why. why ≢ Done) }
+{
+    match last.begin() {
+        Code::Done => {}
+        code => return Err(code),
+    }
+    let values = all(alloc, last, cells)?;
+    match last.commit() {
+        Code::Done => Ok(values),
+        code => Err(code),
+    }
+}
+
+// The values of so many cells, by a transaction that has set nothing.
+fn all(alloc: Global, last: &mut Thread, cells: u32) -> Result<Vec<Val>, Code>
+    requires all { cells ≡ objects_of last.old.attempts.caller }
+    requires untouched { IsUntouched last.old.attempts.caller }
+    ensures keeps { Keeps last.old.attempts.caller last.new.attempts.caller }
+    ensures size { IfOk result (λ values. length values.items ≡ cells) }
+    ensures reads { IfOk result (λ values. (map : List Val) → MayBegin ⟦<AnyLaw as Law>⟧.holds
+        last.new.attempts.caller map → map ≡ values.items) }
+    ensures untouched { OnOk result (IsUntouched last.new.attempts.caller) }
+    ensures fails { IfErr result (λ why. why ≢ Done) }
+{
+    let Ok(mut values) = Vec::with_capacity(alloc, cells as usize) else {
+        return Err(Code::Memory);
+    };
+    for cell in 0..cells {
+        let value = last.get(cell)?;
+        if values.push(value).is_err() {
+            return Err(Code::Memory);
+        }
+    }
+    Ok(values)
+}
