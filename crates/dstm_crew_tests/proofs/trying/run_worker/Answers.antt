@@ -1,12 +1,12 @@
-use Rattle.std.proofs.Common.{◌≡◌, ◌∙◌, ◌<◌, All, List, ap, arith, length, subst, sym}
+use Rattle.std.proofs.Common.{◌≡◌, ◌∙◌, ◌<◌, All, List, ap, arith, length, refl, subst, sym}
 use Rattle.dstm_model.specs.declared.layout.Layout.{Layout}
 use Rattle.dstm_model.specs.declared.value.Val.{Val}
 use Rattle.dstm_store.specs.Whole.{IsLawful}
-use Rattle.dstm_tables.specs.Callers.{round_of}
-use Rattle.dstm_tables.specs.Founders.{first_of, seen_by}
-use Rattle.dstm_jobs.specs.Tables.{layout_of}
-use Rattle.dstm_tables.proofs.Same.{first_past, first_seen}
-use Rattle.dstm_jobs.proofs.Same.{layout_is, layout_past}
+use Rattle.dstm_store.specs.declared.law.StoreLaw.{StoreLaw}
+use Rattle.dstm_tables.specs.Callers.{home_of, law_of}
+use Rattle.dstm_tables.specs.Tables.{law_there}
+use Rattle.dstm_tables.specs.declared.tables.Caller.TheVariants.{Dstm, Tl2}
+use Rattle.dstm_jobs.specs.Tables.{Caller, Table}
 use Rattle.dstm_workload.specs.declared.workload.Job.{Job}
 use Rattle.dstm_crew.specs.Done.{DoneAs}
 use Rattle.dstm_crew_tests.proofs.trying.run_worker.Goals as goal
@@ -29,16 +29,17 @@ run-requires-clause-ready c =
           omega (arith, cap, len, ok);
     }
 
+-- the law of a caller is its table's
+law_at_home : (k : Caller) → law_there (home_of k) ≡ law_of k
+law_at_home (Dstm k) = refl
+law_at_home (Tl2 k) = refl
+
 pub read_state-requires-clause-lawful : goal.read_state-requires-clause-lawful
 read_state-requires-clause-lawful c =
     let layout = c.args.workload.now.layout in
     let opened = c.in_ok-table.ensures in
-    let table = c.in_ok-table.table in
-    let k = c.in_ok-table.caller in
-    let g = c.retire.new.self in
-    let closed = c.in_ok-values.ensures in
-    let same : layout_of (seen_by g) ≡ layout =
-    layout_past (first_of table) (seen_by g) (first_seen g table (c.retire.ensures.home ∙ opened.founder))
-    ∙ sym (layout_past (first_of table) (round_of k) (first_past k table opened.home)) ∙ layout_is k ∙ opened.law in
+    let same : (law_there c.in_ok-table.table).layout ≡ layout =
+    ap (λ (t : Table). (law_there t).layout) (sym opened.home)
+    ∙ ap (λ (law : StoreLaw). law.layout) (law_at_home c.in_ok-table.caller) ∙ opened.law in
     subst (λ (vs : List Val). IsLawful layout vs) (sym c.deref.ensures.value)
-    (subst (λ (l : Layout). IsLawful l c.in_ok-values.values.items) (ap layout_of closed.round ∙ same) closed.lawful)
+    (subst (λ (l : Layout). IsLawful l c.in_ok-values.values.items) same c.in_ok-values.ensures.lawful)
