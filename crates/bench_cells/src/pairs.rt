@@ -165,7 +165,7 @@ pub fn time_cells<R: Clock + Threads + Sync>(
             me.atomically(|tx| tx.set(took, nanos))
         },
     )?;
-    let nanos = u32::try_from(memory.get(took)).unwrap_or(u32::MAX);
+    let nanos = u32::try_from(memory.get(took)?).unwrap_or(u32::MAX);
     Ok(f64::from(nanos) / f64::from(ATTEMPTS))
 }
 

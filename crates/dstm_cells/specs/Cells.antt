@@ -1,8 +1,9 @@
 -- The cells of a memory between runs, and the table of a run.
-use Rattle.std.specs.Prelude.{◌≡◌, ℕ, ◌+◌, false, List, [], ◌∷◌, ◌++◌, length}
+use Rattle.std.specs.Prelude.{◌≡◌, ℕ, ◌+◌, ◌<◌, replicate, slice_index_or, false, List, [], ◌∷◌, ◌++◌, length}
 use Rattle.dstm_core.specs.declared.shape.Manager.{Manager}
 use Rattle.dstm_core.specs.declared.shape.Shape.{Shape}
 use Rattle.dstm_model.specs.declared.value.Val.{Val}
+use Rattle.dstm_cells.specs.declared.cell.Cell.{Cell}
 use Rattle.dstm_tables.specs.Founders.{Enrols, founded}
 use Rattle.dstm_tables.specs.Tables.{law_there, objects_there, start_there}
 use Rattle.dstm_tables.specs.declared.founding.Founder.{Founder}
@@ -35,6 +36,18 @@ module _ {L : Type 0} where
   WorksBy (engine.Dstm manager) (Dstm home) = IsShape manager home.terms.shape
   WorksBy engine.Tl2 (Tl2 home) = home.terms.attempts ≡ 18014398509481984
   WorksBy engine table = ⊥
+
+-- these cells have the numbers from this one on
+abbrev pub AreNamed : {T : Type 0} → (first : ℕ) → List (Cell T) → Type 0
+AreNamed {T} first cells =
+    (place : ℕ) (other : Cell T) → place < length cells → (slice_index_or cells place other).object ≡ first + place
+
+-- cells were added behind the values of those before, and each holds this
+pub record AddsAll {T : Type 0} (found : Val → T) (old new : List Val) (cells : List (Cell T)) (value : T) : Type 0 where
+  pub kept : Val
+  pub is : found kept ≡ value
+  pub behind : new ≡ old ++ replicate (length cells) kept
+  pub named : AreNamed (length old) cells
 
 module _ {L : Type 0} (rule : L) (values : List Val) where
   -- a table has an object for each of these values, under this law

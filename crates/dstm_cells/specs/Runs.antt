@@ -36,6 +36,7 @@ FailsFor ended unread threads failed.Memory = Unit {0}
 FailsFor ended unread threads failed.Threads = (threads ≡ 0) ⊎ (63 < threads)
 FailsFor ended unread threads (failed.GaveUp why) = FirstEnded ended threads why
 FailsFor ended unread threads failed.Unread = unread
+FailsFor ended unread threads failed.Foreign = ⊥
 
 -- what a run leaves: the first, but the second where the failure is the memory's own
 abbrev pub LeavesBy : (ran same : Type 0) → Result (Unit {0}) Failed → Type 0
@@ -45,6 +46,7 @@ LeavesBy ran same (Err failed.Memory) = same
 LeavesBy ran same (Err failed.Threads) = same
 LeavesBy ran same (Err (failed.GaveUp why)) = ran
 LeavesBy ran same (Err failed.Unread) = same
+LeavesBy ran same (Err failed.Foreign) = same
 
 module _ {L : Type 0} where
   -- the seat of this number tells that its thread has ended so

@@ -17,3 +17,4 @@ text_of_failure failed.Memory = codes "out of memory"
 text_of_failure failed.Threads = codes "a memory runs from 1 to 63 threads"
 text_of_failure (failed.GaveUp why) = text_of_end why
 text_of_failure failed.Unread = codes "the cells could not be read"
+text_of_failure failed.Foreign = codes "the memory has no such cell"

@@ -53,6 +53,8 @@ pub enum Failed {
     GaveUp(GaveUp),
     /// The cells could not be read in the end, and are as before the run.
     Unread,
+    /// The memory has no such cell.
+    Foreign,
 }
 
 impl fmt::Display for GaveUp {
@@ -86,6 +88,7 @@ impl fmt::Display for Failed {
             Failed::Threads => write!(f, "a memory runs from 1 to 63 threads"),
             Failed::GaveUp(why) => write!(f, "{why}"),
             Failed::Unread => write!(f, "the cells could not be read"),
+            Failed::Foreign => write!(f, "the memory has no such cell"),
         }
     }
 }

@@ -1,7 +1,7 @@
 // Cells, and threads that change them.
 ghost use Rattle.std.specs.Prelude.{◌≡◌, ◌⊎◌, ◌↔◌, ◌+◌, ◌<◌, ◌≤◌, ℕ, [], length, All, Ok, Err, IfErr, IfOk, OnOk};
 ghost use Rattle.dstm_cells.specs.Attempts.{CouldNotRead};
-ghost use Rattle.dstm_cells.specs.Cells.{Adds, Founds, IsFor, LeavesUnread, ReadsAll, Takes, WorksBy};
+ghost use Rattle.dstm_cells.specs.Cells.{Adds, AddsAll, AreNamed, Founds, IsFor, LeavesUnread, ReadsAll, Takes, WorksBy};
 ghost use Rattle.dstm_cells.specs.Runs.{CalledFor, FailsFor, HaveNew, IsCalled, IsFirst, LeavesBy, Ran, WasUnread};
 ghost use Rattle.dstm_cells.specs.declared.error.Failed.TheVariants as failed;
 ghost use Rattle.dstm_cells.specs.declared.memory.Engine.TheVariants.{Dstm, Tl2};
@@ -19,7 +19,7 @@ use dstm_core::{Manager, Shape};
 use dstm_engine::{EnrolError, MOST_OBJECTS, Zeros, shape_for};
 use dstm_model::{AnyLaw, Law, Val};
 use dstm_tables::{Founder, Table, make_dstm, make_tl2};
-use std::alloc::Global;
+use std::alloc::{AllocError, Global};
 use std::marker::PhantomData;
 use std::thread::{Threads, for_each_mut};
 
@@ -112,13 +112,33 @@ impl<L: Law + Copy> Memory<L> {
         })
     }
 
-    /// What a cell holds between runs. Of a cell that this memory has not, what two words of 0 stand for.
-    pub fn get<T: Word>(&self, cell: Cell<T>) -> T
-        ensures { result ≡ T.found (value_at self.now.values.items cell.object) }
+    /// So many new cells, each of which holds the value.
+    pub fn cells<T: Word>(&mut self, value: T, count: u32) -> Result<Vec<Cell<T>>, Failed>
+        ensures engine { self.new.engine ≡ self.old.engine }
+        ensures law { self.new.law ≡ self.old.law }
+        ensures full { result ≡ Err failed.Full ↔ 524288 < length self.old.values.items + count }
+        ensures fails { IfErr result (λ why. self.new.values.items ≡ self.old.values.items) }
+        ensures count { IfOk result (λ cells. length cells.items ≡ count) }
+        ensures made { IfOk result (λ cells. AddsAll T.found self.old.values.items self.new.values.items cells.items value) }
+    {
+        if count as usize > MOST_CELLS as usize - self.values.len() {
+            return Err(Failed::Full);
+        }
+        let cells = names(self.alloc, self.values.len() as u32, count)?;
+        let added = vec![in self.alloc; value.to_val(); count as usize]?;
+        self.values.extend_from_slice(&added)?;
+        Ok(cells)
+    }
+
+    /// What a cell holds between runs.
+    pub fn get<T: Word>(&self, cell: Cell<T>) -> Result<T, Failed>
+        ensures gets { IfOk result (λ value. value ≡ T.found (value_at self.now.values.items cell.object)) }
+        ensures foreign { result ≡ Err failed.Foreign ↔ length self.now.values.items ≤ cell.object }
+        ensures fails { IfErr result (λ why. why ≡ failed.Foreign) }
     {
         match self.values.get(cell.object as usize) {
-            Some(value) => T::of_val(*value),
-            None => T::of_val(Val { low: 0, high: 0 }),
+            Some(value) => Ok(T::of_val(*value)),
+            None => Err(Failed::Foreign),
         }
     }
 
@@ -334,6 +354,22 @@ impl Memory {
         self.take_by(&mut last)?;
         how_all_ended(&seats)
     }
+}
+
+// So many cells, from one number on.
+fn names<T>(alloc: Global, first: u32, count: u32) -> Result<Vec<Cell<T>>, AllocError>
+    requires few { first + count ≤ 524288 }
+    ensures count { IfOk result (λ cells. length cells.items ≡ count) }
+    ensures names { IfOk result (λ cells. AreNamed first cells.items) }
+{
+    let mut cells = Vec::with_capacity(alloc, count as usize)?;
+    for number in 0..count {
+        cells.push(Cell {
+            object: first + number,
+            holds: PhantomData,
+        })?;
+    }
+    Ok(cells)
 }
 
 // How the first thread ended that did not end well.

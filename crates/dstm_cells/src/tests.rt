@@ -19,6 +19,38 @@ fn what_is_put_is_found(rt: HostRuntime) {
     assert!(rt; comes_back(None::<u64>));
 }
 
+#[test]
+fn cells_name_cells(rt: HostRuntime) -> Result<(), Fail> {
+    let mut memory = Memory::new(rt.alloc());
+    let cells = memory.cells(3u64, 2)?;
+    assert_eq!(rt; cells.len(), 2);
+    let (Some(first), Some(second)) = (cells.get(0), cells.get(1)) else {
+        return Ok(());
+    };
+    let (first, second) = (*first, *second);
+    let name = memory.cell(first)?;
+    let next = memory.cell(None::<Cell<u64>>)?;
+    memory.run(&rt, 1, |me, _| {
+        me.atomically(|tx| {
+            let named = tx.get(name)?;
+            tx.set(named, 4)?;
+            tx.set(name, second)?;
+            tx.set(next, Some(named))
+        })
+    })?;
+    assert_eq!(rt; memory.get(first)?, 4);
+    let named = memory.get(name)?;
+    assert_eq!(rt; memory.get(named)?, 3);
+    let Some(named) = memory.get(next)? else {
+        return Ok(());
+    };
+    assert_eq!(rt; memory.get(named)?, 4);
+    let mut other = Memory::new(rt.alloc());
+    let _one = other.cell(0u64)?;
+    assert_eq!(rt; other.get(second), Err(Failed::Foreign));
+    Ok(())
+}
+
 fn reads_and_changes<R: Abort + Threads + Sync>(rt: &R, memory: Memory) -> Result<(), Fail> {
     let mut memory = memory;
     let one = memory.cell(5u64)?;
@@ -32,8 +64,8 @@ fn reads_and_changes<R: Abort + Threads + Sync>(rt: &R, memory: Memory) -> Resul
         })?;
         me.atomically(|tx| tx.set(two, (found, 0)))
     })?;
-    assert_eq!(rt; memory.get(one), 7);
-    assert_eq!(rt; memory.get(two), (7, 0));
+    assert_eq!(rt; memory.get(one)?, 7);
+    assert_eq!(rt; memory.get(two)?, (7, 0));
     Ok(())
 }
 
@@ -66,9 +98,9 @@ fn undoes<R: Abort + Threads + Sync>(rt: &R, memory: Memory) -> Result<(), Fail>
             tx.set(seen, found)
         })
     })?;
-    assert_eq!(rt; memory.get(seen), (1, 20));
-    assert_eq!(rt; memory.get(one), 1);
-    assert_eq!(rt; memory.get(two), 20);
+    assert_eq!(rt; memory.get(seen)?, (1, 20));
+    assert_eq!(rt; memory.get(one)?, 1);
+    assert_eq!(rt; memory.get(two)?, 20);
     Ok(())
 }
 
@@ -84,7 +116,7 @@ fn goes_by_the_first<R: Abort + Threads + Sync>(rt: &R, memory: Memory) -> Resul
     memory.run(rt, 1, |me, _| {
         me.atomically(|tx| tx.or_else(|tx| tx.set(cell, 2), |tx| tx.set(cell, 3)))
     })?;
-    assert_eq!(rt; memory.get(cell), 2);
+    assert_eq!(rt; memory.get(cell)?, 2);
     Ok(())
 }
 
@@ -107,7 +139,7 @@ fn waits<R: Abort + Threads + Sync>(rt: &R, memory: Memory) -> Result<(), Fail> 
             tx.set(passed, 1)
         })
     })?;
-    assert_eq!(rt; memory.get(passed), 1);
+    assert_eq!(rt; memory.get(passed)?, 1);
     Ok(())
 }
 
@@ -170,7 +202,7 @@ fn by_dstm_the_attempts_of_a_thread_are_used_up(rt: HostRuntime) -> Result<(), F
     let cell = memory.cell(0u64)?;
     let spent = adds_often(&rt, &mut memory, cell);
     assert_eq!(rt; spent, Err(Failed::GaveUp(GaveUp::Spent)));
-    assert_eq!(rt; memory.get(cell), 65_536);
+    assert_eq!(rt; memory.get(cell)?, 65_536);
     Ok(())
 }
 
@@ -179,7 +211,7 @@ fn by_tl2_they_are_not(rt: HostRuntime) -> Result<(), Fail> {
     let mut memory = Memory::new(rt.alloc());
     let cell = memory.cell(0u64)?;
     adds_often(&rt, &mut memory, cell)?;
-    assert_eq!(rt; memory.get(cell), 65_537);
+    assert_eq!(rt; memory.get(cell)?, 65_537);
     Ok(())
 }
 
@@ -192,7 +224,7 @@ fn is_taken_back<R: Abort>(rt: &R, memory: Memory) -> Result<(), Fail> {
     assert_eq!(rt; founder.out(), 0);
     let (other, founder) = memory.found(1)?;
     memory.close(other, founder)?;
-    assert_eq!(rt; memory.get(cell), 7);
+    assert_eq!(rt; memory.get(cell)?, 7);
     Ok(())
 }
 

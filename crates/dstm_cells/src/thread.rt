@@ -9,6 +9,9 @@ use crate::under_way::Tx;
 use dstm_model::AnyLaw;
 use std::thread::yield_now;
 
+// A transaction gives way after each attempt that was lost, twice as often as before, and at most so often.
+const MOST_TURNS: u32 = 64;
+
 /// A thread's part in a run: it makes transactions, one after the other.
 #[derive(Drop)]
 pub struct Part<X> {
@@ -35,6 +38,7 @@ impl<X: Transaction> Part<X> {
     {
         let mut f = f;
         self.tx.renew();
+        let mut turns: u32 = 1;
         for _number in 0..self.tx.attempts() {
             self.tx.begin()?;
             match f(&mut self.tx) {
@@ -45,7 +49,8 @@ impl<X: Transaction> Part<X> {
                 }
                 Err(stop) => self.tx.leave(stop)?,
             }
-            yield_now();
+            turns = turns.saturating_mul(2).min(MOST_TURNS);
+            give_way(turns);
         }
         Err(GaveUp::Spent)
     }
@@ -57,5 +62,12 @@ impl<X: Transaction> Part<X> {
         ensures looks { X.patience self.new.tx ≡ looks }
     {
         self.tx.set_looks(looks);
+    }
+}
+
+// Lets other threads run, so many times.
+fn give_way(turns: u32) {
+    for _turn in 0..turns {
+        yield_now();
     }
 }

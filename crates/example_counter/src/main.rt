@@ -7,11 +7,11 @@ fn main(rt: HostRuntime) -> anyhow::Result<()> {
     let mut memory = Memory::new(rt.alloc());
     let counter = memory.cell(0u64)?;
     memory.run(&rt, 4, |me, _| {
-        for _ in 0..10_000 {
+        for _ in 0..1_000_000 {
             me.atomically(|tx| tx.update(counter, |n| n.wrapping_add(1)))?;
         }
         Ok(())
     })?;
-    println!(rt; "{}", memory.get(counter))?;
+    println!(rt; "{}", memory.get(counter)?)?;
     Ok(())
 }

@@ -30,8 +30,8 @@ pub fn sell_all<R: Threads + Sync>(rt: &R, alloc: Global, all: u64) -> Result<Sa
     };
     office.run_work(rt, 2, &desks)?;
     Ok(Sales {
-        left: office.get(left),
-        east: office.get(east),
-        west: office.get(west),
+        left: office.get(left)?,
+        east: office.get(east)?,
+        west: office.get(west)?,
     })
 }

@@ -30,8 +30,11 @@ pub fn dine<R: Threads + Sync>(rt: &R, alloc: Global) -> Result<(u64, usize), Fa
         }
         Ok(())
     })?;
-    let held = forks.iter().filter(|fork| memory.get(**fork)).count();
-    Ok((memory.get(meals), held))
+    let held = forks
+        .iter()
+        .filter(|fork| memory.get(**fork) == Ok(true))
+        .count();
+    Ok((memory.get(meals)?, held))
 }
 
 // Takes a fork, once nobody holds it.
