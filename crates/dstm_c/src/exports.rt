@@ -1,5 +1,5 @@
 // What C calls.
-ghost use Rattle.std.specs.Prelude.{◌≡◌, ◌≢◌, [], MatchOption, None, Some};
+ghost use Rattle.std.specs.Prelude.{◌≡◌, ◌≢◌, MatchOption, None, Some};
 ghost use Rattle.dstm_attempts.specs.Attempts.{AddsNothing, Begins, Exchanges, Finds, SetsNothing, TakesEffect};
 ghost use Rattle.dstm_handles.specs.Held.{IfOpened, IfPart, OfMemory, OfPart, Opened};
 ghost use Rattle.dstm_handles.specs.Memories.{Grows, HasSettled};

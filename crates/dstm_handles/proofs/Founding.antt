@@ -3,27 +3,19 @@ use Rattle.std.proofs.Common.{◌≡◌, ℕ, List, ap, length, refl}
 use Rattle.dstm_core.specs.declared.shape.Shape.{Shape}
 use Rattle.dstm_model.specs.declared.value.Val.{Val}
 use Rattle.dstm_attempts.specs.Attempts.{IsClosed}
-use Rattle.dstm_attempts.proofs.ClosedByDstm.{enrolled_by_dstm}
-use Rattle.dstm_attempts.proofs.ClosedByTl2.{enrolled_by_tl2}
+use Rattle.dstm_attempts.proofs.Closed as closed
 use Rattle.dstm_tables.specs.Founders.{Enrols, founded, home_there}
 use Rattle.dstm_tables.specs.Tables.{IsByDstm, IsByTl2, objects_there, start_there}
 use Rattle.dstm_tables.specs.declared.founding.Founder.{Founder}
-use Rattle.dstm_tables.specs.declared.founding.Founder.TheVariants as founder
 use Rattle.dstm_tables.specs.declared.tables.Caller.{Caller}
-use Rattle.dstm_tables.specs.declared.tables.Caller.TheVariants as caller
 use Rattle.dstm_tables.specs.declared.tables.Table.{Table}
 use Rattle.dstm_tables.specs.declared.tables.Table.TheVariants as table
 
 module _ {L : Type 0} where
   -- a caller that was just given out has no attempt under way
-  pub enrolled_closed : (holds : L → List Val → Type 0) (f g : Founder L) (seed : ℕ) (k : Caller L) → Enrols holds f g seed k →
-      IsClosed k
-  enrolled_closed holds (founder.Dstm f) (founder.Dstm g) seed (caller.Dstm k) enrols = enrolled_by_dstm holds f g seed k enrols
-  enrolled_closed holds (founder.Tl2 f) (founder.Tl2 g) seed (caller.Tl2 k) enrols = enrolled_by_tl2 holds f g k enrols
-  enrolled_closed holds (founder.Dstm f) (founder.Dstm g) seed (caller.Tl2 k) enrols = absurd enrols
-  enrolled_closed holds (founder.Tl2 f) (founder.Tl2 g) seed (caller.Dstm k) enrols = absurd enrols
-  enrolled_closed holds (founder.Dstm f) (founder.Tl2 g) seed k enrols = absurd enrols
-  enrolled_closed holds (founder.Tl2 f) (founder.Dstm g) seed k enrols = absurd enrols
+  pub enrolled_closed : (holds : L → List Val → Type 0) (f g : Founder L) (seed : ℕ) (k : Caller L) →
+      Enrols holds f g seed k → IsClosed k
+  enrolled_closed holds f g seed k enrols = closed.enrolled_closed holds f g seed k enrols
 
   pub objects_by_dstm : (shape : Shape) (t : Table L) → IsByDstm shape t → objects_there t ≡ shape.objects
   objects_by_dstm shape (table.Dstm h) is = ap (λ (s : Shape). s.objects) is
