@@ -1,7 +1,5 @@
 -- The cells of a memory between runs, and the table of a run.
-use Rattle.std.specs.Prelude.{◌≡◌, ℕ, ◌+◌, ◌<◌, replicate, slice_index_or, false, List, [], ◌∷◌, ◌++◌, length}
-use Rattle.dstm_core.specs.declared.shape.Manager.{Manager}
-use Rattle.dstm_core.specs.declared.shape.Shape.{Shape}
+use Rattle.std.specs.Prelude.{◌≡◌, ℕ, ◌+◌, ◌<◌, replicate, slice_index_or, List, [], ◌∷◌, ◌++◌, length}
 use Rattle.dstm_model.specs.declared.value.Val.{Val}
 use Rattle.dstm_cells.specs.declared.cell.Cell.{Cell}
 use Rattle.dstm_tables.specs.Founders.{Enrols, founded}
@@ -9,10 +7,7 @@ use Rattle.dstm_tables.specs.Tables.{law_there, objects_there, start_there}
 use Rattle.dstm_tables.specs.declared.founding.Founder.{Founder}
 use Rattle.dstm_tables.specs.declared.tables.Caller.{Caller}
 use Rattle.dstm_tables.specs.declared.tables.Table.{Table}
-use Rattle.dstm_tables.specs.declared.tables.Table.TheVariants.{Dstm, Tl2}
 use Rattle.dstm_attempts.specs.Attempts.{Settles}
-use Rattle.dstm_cells.specs.declared.memory.Engine.{Engine}
-use Rattle.dstm_cells.specs.declared.memory.Engine.TheVariants as engine
 use Rattle.dstm_cells.specs.Attempts.{CouldNotRead}
 
 -- a cell was added to the values of those before, and holds this, by what two words stand for
@@ -21,21 +16,6 @@ pub record Adds {T : Type 0} (found : Val → T) (old new : List Val) (cell : �
   pub is : found kept ≡ value
   pub last : new ≡ old ++ (kept ∷ [])
   pub number : cell ≡ length old
-
--- the shape of a run under a manager: with as many attempts as there can be, and two locators for each beside one for each
--- object
-pub record IsShape (manager : Manager) (shape : Shape) : Type 0 where
-  pub manager_is : shape.manager ≡ manager
-  pub attempts : shape.attempts ≡ 65536
-  pub locators : shape.locators ≡ shape.objects + 131072
-  pub all_write : shape.all_write ≡ false
-
-module _ {L : Type 0} where
-  -- a table works by this engine: under DSTM with this shape, under TL2 with 2^54 attempts of each caller
-  abbrev pub WorksBy : Engine → Table L → Type 0
-  WorksBy (engine.Dstm manager) (Dstm home) = IsShape manager home.terms.shape
-  WorksBy engine.Tl2 (Tl2 home) = home.terms.attempts ≡ 18014398509481984
-  WorksBy engine table = ⊥
 
 -- these cells have the numbers from this one on
 abbrev pub AreNamed : {T : Type 0} → (first : ℕ) → List (Cell T) → Type 0

@@ -16,9 +16,9 @@ mod work;
 
 pub use alternatives::or_else;
 pub use cell::{Cell, Word};
-pub use dstm_core::Manager;
+pub use dstm_tables::{Engine, Manager};
 pub use error::{Failed, GaveUp, Stop};
-pub use memory::{Engine, MOST_CELLS, MOST_THREADS, Memory};
+pub use memory::{MOST_CELLS, MOST_THREADS, Memory};
 pub use thread::{Me, Part};
 pub use tx::{ensure, retry};
 pub use under_way::Tx;

@@ -1,24 +1,23 @@
 // Cells, and threads that change them.
 ghost use Rattle.std.specs.Prelude.{◌≡◌, ◌⊎◌, ◌↔◌, ◌+◌, ◌<◌, ◌≤◌, ℕ, [], length, All, Ok, Err, IfErr, IfOk, OnOk};
 ghost use Rattle.dstm_cells.specs.Attempts.{CouldNotRead};
-ghost use Rattle.dstm_cells.specs.Cells.{Adds, AddsAll, AreNamed, Founds, IsFor, LeavesUnread, ReadsAll, Takes, WorksBy};
+ghost use Rattle.dstm_cells.specs.Cells.{Adds, AddsAll, AreNamed, Founds, IsFor, LeavesUnread, ReadsAll, Takes};
 ghost use Rattle.dstm_cells.specs.Runs.{CalledFor, FailsFor, HaveNew, IsCalled, IsFirst, LeavesBy, Ran, WasUnread};
 ghost use Rattle.dstm_cells.specs.declared.error.Failed.TheVariants as failed;
-ghost use Rattle.dstm_cells.specs.declared.memory.Engine.TheVariants.{Dstm, Tl2};
 ghost use Rattle.dstm_model.specs.Map.{state_after, value_at};
 ghost use Rattle.dstm_tables.specs.Callers.{home_of};
+ghost use Rattle.dstm_tables.specs.Engines.{WorksBy};
 ghost use Rattle.dstm_tables.specs.Founders.{Enrols, Retires, history_by, home_there, made_of, out_of};
 ghost use Rattle.dstm_tables.specs.Tables.{callers_there, start_there};
+ghost use Rattle.dstm_tables.specs.declared.engine.Engine.TheVariants.{Dstm, Tl2};
 
 use crate::cell::{Cell, Word};
 use crate::error::{Failed, GaveUp};
 use crate::thread::{Me, Part};
 use crate::under_way::Tx;
 use crate::work::Work;
-use dstm_core::{Manager, Shape};
-use dstm_engine::{EnrolError, MOST_OBJECTS, Zeros, shape_for};
 use dstm_model::{AnyLaw, Law, Val};
-use dstm_tables::{Founder, Table, make_dstm, make_tl2};
+use dstm_tables::{Engine, EnrolError, Founder, MOST_OBJECTS, Manager, Table, make};
 use std::alloc::{AllocError, Global};
 use std::marker::PhantomData;
 use std::thread::{Threads, for_each_mut};
@@ -28,19 +27,6 @@ pub const MOST_CELLS: u32 = MOST_OBJECTS;
 
 /// The most threads of a run.
 pub const MOST_THREADS: u32 = 63;
-
-// The attempts of each caller of a table by TL2.
-const ATTEMPTS: u64 = 18_014_398_509_481_984;
-
-/// How the runs of a memory work.
-#[derive(Clone, Copy, Debug, PartialEq, Eq)]
-pub enum Engine {
-    /// By TL2: a transaction locks the cells that it changes while it takes effect, and a thread may make any number of them.
-    Tl2,
-    /// By DSTM: nothing is locked, and this manager decides what a transaction does when another one is changing a cell that
-    /// it wants to change.
-    Dstm(Manager),
-}
 
 /// Cells that transactions on threads may change, under a law: one that forbids nothing, where none is named.
 #[derive(Drop)]
@@ -157,17 +143,7 @@ impl<L: Law + Copy> Memory<L> {
             return Err(Failed::Threads);
         }
         let start = Vec::from_slice(self.alloc, &self.values)?;
-        match self.engine {
-            Engine::Dstm(manager) => {
-                let shape = Shape {
-                    manager,
-                    ..shape_for(self.values.len() as u32, threads + 1)
-                };
-                let mut zeros = Zeros::new(self.alloc);
-                Ok(make_dstm(self.alloc, &mut zeros, start, shape, self.law)?)
-            }
-            Engine::Tl2 => Ok(make_tl2(self.alloc, start, threads + 1, ATTEMPTS, self.law)?),
-        }
+        Ok(make(self.alloc, self.engine, start, threads + 1, self.law)?)
     }
 
     /// A thread's part in a run on a table that was founded for it. From the seed come the random lengths of its waits.

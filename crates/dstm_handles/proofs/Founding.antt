@@ -1,11 +1,9 @@
 -- What a table was told that was made for a memory, and a caller that it was given.
-use Rattle.std.proofs.Common.{◌≡◌, ℕ, List, ap, length, refl}
-use Rattle.dstm_core.specs.declared.shape.Shape.{Shape}
+use Rattle.std.proofs.Common.{◌≡◌, ℕ, List, refl}
 use Rattle.dstm_model.specs.declared.value.Val.{Val}
 use Rattle.dstm_attempts.specs.Attempts.{IsClosed}
 use Rattle.dstm_attempts.proofs.Closed as closed
 use Rattle.dstm_tables.specs.Founders.{Enrols, founded, home_there}
-use Rattle.dstm_tables.specs.Tables.{IsByDstm, IsByTl2, objects_there, start_there}
 use Rattle.dstm_tables.specs.declared.founding.Founder.{Founder}
 use Rattle.dstm_tables.specs.declared.tables.Caller.{Caller}
 use Rattle.dstm_tables.specs.declared.tables.Table.{Table}
@@ -16,15 +14,6 @@ module _ {L : Type 0} where
   pub enrolled_closed : (holds : L → List Val → Type 0) (f g : Founder L) (seed : ℕ) (k : Caller L) →
       Enrols holds f g seed k → IsClosed k
   enrolled_closed holds f g seed k enrols = closed.enrolled_closed holds f g seed k enrols
-
-  pub objects_by_dstm : (shape : Shape) (t : Table L) → IsByDstm shape t → objects_there t ≡ shape.objects
-  objects_by_dstm shape (table.Dstm h) is = ap (λ (s : Shape). s.objects) is
-  objects_by_dstm shape (table.Tl2 h) is = absurd is
-
-  pub objects_by_tl2 : (callers attempts : ℕ) (t : Table L) → IsByTl2 callers attempts t →
-      objects_there t ≡ length (start_there t)
-  objects_by_tl2 callers attempts (table.Dstm h) is = absurd is
-  objects_by_tl2 callers attempts (table.Tl2 h) is = refl
 
   -- a new founder is of its table
   pub founded_home : (t : Table L) → home_there (founded t) ≡ t

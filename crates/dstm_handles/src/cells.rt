@@ -5,20 +5,16 @@ ghost use Rattle.dstm_model.specs.Map.{value_at};
 ghost use Rattle.dstm_model.specs.declared.value.AnyLaw.{AnyLaw as AnyLawValue};
 ghost use Rattle.dstm_model.specs.declared.value.Val.{Val};
 ghost use Rattle.dstm_tables.specs.Callers.{home_of};
-ghost use Rattle.dstm_tables.specs.Founders.{founded};
 ghost use Rattle.dstm_tables.specs.Tables.{objects_there};
 ghost use Rattle.dstm_tables.specs.declared.tables.Caller.{Caller};
 ghost use Rattle.dstm_handles.specs.Memories.{GivesPart, Grows, HasSettled, IsAt, ReadsAll, StartsWith, table_at};
 ghost use Rattle.dstm_handles.specs.declared.code.Code.TheVariants.{Done, Range};
 
 use crate::code::Code;
-use crate::engine::Engine;
 use crate::memory::{Home, Memory};
 use crate::thread::Thread;
-use dstm_core::Shape;
-use dstm_engine::{MOST_OBJECTS, shape_for};
 use dstm_model::{AnyLaw, Law, Val};
-use dstm_tables::{EnrolError, Founder, Table, Zeros, make_dstm, make_tl2};
+use dstm_tables::{Engine, EnrolError, MOST_OBJECTS, make};
 use std::alloc::{AllocError, Global};
 use std::sync::Arc;
 
@@ -31,10 +27,8 @@ pub const MOST_THREADS: u32 = 63;
 // How often all cells are read together, when nobody sets them any more.
 const READINGS: u32 = 64;
 
-// By TL2, how many parts a table has, with the memory's own, and how many attempts each of them.
+// How many parts a table by TL2 gives out, with the memory's own.
 const CALLERS: u32 = 64;
-
-const ATTEMPTS: u64 = 18_014_398_509_481_984;
 
 impl Memory {
     /// A memory with no cell, in which so many threads, from 1 to 63, may have parts at once.
@@ -168,7 +162,8 @@ impl Memory {
         let Ok(start) = Vec::from_slice(self.alloc, &self.values) else {
             return Err(Code::Memory);
         };
-        let Ok((table, mut founder)) = make(self.alloc, self.engine, start, self.threads) else {
+        let callers = callers_by(self.engine, self.threads);
+        let Ok((table, mut founder)) = make(self.alloc, self.engine, start, callers, AnyLaw) else {
             return Err(Code::Memory);
         };
         let Ok(caller) = founder.caller(self.alloc, &table, 0) else {
@@ -231,27 +226,14 @@ impl Home {
     }
 }
 
-// A table of this engine that has these values, for so many threads.
-fn make(
-    alloc: Global,
-    engine: Engine,
-    start: Vec<Val>,
-    threads: u32,
-) -> Result<(Table<AnyLaw>, Founder<AnyLaw>), AllocError>
-    requires few { length start.items ≤ 524288 }
+// How many parts a table gives out, with the memory's own. One of DSTM takes 5.3 MB for each.
+fn callers_by(engine: Engine, threads: u32) -> u32
     requires threads { (1 ≤ threads) × (threads ≤ 63) }
-    ensures start { IfOk result (λ t. StartsWith start.items t.0) }
-    ensures founder { IfOk result (λ t. t.1 ≡ founded t.0) }
+    ensures { (1 ≤ result) × (result ≤ 64) }
 {
     match engine {
-        Engine::Tl2 => make_tl2(alloc, start, CALLERS, ATTEMPTS, AnyLaw),
-        Engine::Dstm(manager) => {
-            let shape = Shape {
-                manager,
-                ..shape_for(start.len() as u32, threads + 1)
-            };
-            make_dstm(alloc, &mut Zeros::new(alloc), start, shape, AnyLaw)
-        }
+        Engine::Tl2 => CALLERS,
+        Engine::Dstm(_) => threads + 1,
     }
 }
 

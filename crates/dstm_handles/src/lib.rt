@@ -5,7 +5,6 @@
 mod calls;
 mod cells;
 mod code;
-mod engine;
 mod handle;
 mod held;
 mod memory;
@@ -14,8 +13,7 @@ mod thread;
 
 pub use cells::{MOST_CELLS, MOST_THREADS};
 pub use code::Code;
-pub use dstm_core::Manager;
-pub use engine::Engine;
+pub use dstm_tables::{Engine, Manager};
 pub use handle::Handle;
 pub use held::{Held, free};
 pub use memory::Memory;

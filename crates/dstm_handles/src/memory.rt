@@ -6,10 +6,9 @@ ghost use Rattle.dstm_tables.specs.Callers.{home_of};
 ghost use Rattle.dstm_tables.specs.Founders.{home_there};
 ghost use Rattle.dstm_tables.specs.Tables.{objects_there};
 
-use crate::engine::Engine;
 use crate::thread::Thread;
 use dstm_model::{AnyLaw, Val};
-use dstm_tables::{Founder, Table};
+use dstm_tables::{Engine, Founder, Table};
 use std::alloc::Global;
 use std::sync::Arc;
 
