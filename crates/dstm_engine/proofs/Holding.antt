@@ -1,11 +1,11 @@
 -- What is held of an object, by its slots.
 use Rattle.std.proofs.Common.{◌&&◌, ◌++◌, ◌==◌, ◌∙◌, ◌∷◌, ◌≡◌, ◌⊎◌, Bool, List, None, [], ap, cond, false, inl, inr, map, not, refl, sym, true, ℕ}
-use Rattle.std.specs.Prelude.{is_some}
+use Rattle.std.specs.Prelude.{IsTrue, is_some}
 use Rattle.std.proofs.lemmas.Bool.{cases_Bool}
 use Rattle.dstm_engine.proofs.Base.{ReadSlot, Val, WriteSlot, old_values, value_in}
 use Rattle.dstm_engine.proofs.Setting.{opened_slot}
 use Rattle.dstm_engine.proofs.Tying.{live_there}
-use Rattle.dstm_engine.specs.Callers.{held, is_opened, live_held, live_opened, state}
+use Rattle.dstm_engine.specs.Callers.{Called, entry, held, is_live, is_opened, live_held, live_opened, state}
 use Rattle.dstm_engine.specs.Mirror.{Tied, called, slot_old, slot_value}
 use Rattle.dstm_engine.specs.declared.caller.Caller.TheInside.{Inside}
 use Rattle.dstm_engine.specs.Opened.{read_slot, write_slot}
@@ -58,3 +58,12 @@ module _ {L : Type 0} {holds : L → List Val → Type 0} {c : Inside L} (v : Ti
   is_read_dead dead =
       ap (λ b. is_some (cond b (held (called c) o) None) && not (b && is_opened (called c) o))
       (sym (live_there v) ∙ dead)
+
+-- a live attempt holds the values of its reads, and the old ones of the objects open for writing
+pub reads_there : {L : Type 0} {holds : L → List Val → Type 0} {c : Inside L} → Tied holds c → {k : Called L} →
+    called c ≡ k → IsTrue (is_live k) → map slot_value c.opened.reads ++ map slot_old c.opened.writes ≡ (entry k).reads
+reads_there {c = c} v view live =
+    let runs : c.live ≡ true = live_there v ∙ ap is_live view ∙ live in
+    let here : map slot_value c.opened.reads ++ map slot_old c.opened.writes ≡ (entry (called c)).reads =
+    rw (v.values runs, v.olds runs) refl in
+    here ∙ ap (λ (k : Called _). (entry k).reads) view

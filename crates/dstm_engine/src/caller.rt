@@ -2,7 +2,7 @@ ghost use base.Fml.{GName};
 ghost use Rattle.std.specs.Prelude.{List, Ok, Err, OnOk, MatchResult, cond, ◌≡◌, ◌≢◌, ◌<◌, ◌≤◌, ◌*◌, ℕ, true, false, [], None, Some, IfErr, IfOk, IfSome, IsSome, IsTrue, is_some, not, nat_lt, ◌||◌, ◌&&◌, ◌+◌};
 ghost use Rattle.dstm_core.specs.State.{first};
 ghost use Rattle.dstm_core.specs.Words.{IsValid};
-ghost use Rattle.dstm_engine.specs.Callers.{begun_log, handed, held, is_live, is_opened, law_of, live_held, live_opened, new_value, seat_view, shape_of, state, written};
+ghost use Rattle.dstm_engine.specs.Callers.{begun_log, entry, handed, held, is_live, is_opened, law_of, live_held, live_opened, new_value, seat_view, shape_of, state, written};
 ghost use Rattle.dstm_mem.specs.Memory.{HoldsWithout, SetsOnly, with_set};
 ghost use Rattle.dstm_model.specs.declared.value.Val.{Val};
 ghost use Rattle.dstm_engine.specs.Attempts.{Admits, Commits, Sighted, done, sights};
@@ -29,6 +29,7 @@ use dstm_model::{Law, Val};
 use dstm_order::Again;
 use dstm_steps::{CallerSeat, Places, Steps, Tally};
 use dstm_words::{CoreSeat, Terms};
+use std::alloc::AllocError;
 use std::marker::{Brand, Model};
 use std::snapshot::Snapshot;
 
@@ -80,6 +81,17 @@ impl<L: Law> Caller<L> {
         ensures { result ≡ is_live self.now }
     {
         self.live
+    }
+
+    /// Copies what the last attempt holds, each value with its object: those that it has read, and the old ones of the
+    /// objects that it has opened for writing.
+    pub fn copy_held(&self, values: &mut Vec<(u32, Val)>) -> Result<(), AllocError>
+        requires live { IsTrue (is_live self.now) }
+        ensures { OnOk result (values.new.items ≡ (entry self.now).reads) }
+    {
+        // A read of the caller, so that what its type keeps is known here.
+        let _ = &self.live;
+        self.opened.copy_held(values)
     }
 }
 

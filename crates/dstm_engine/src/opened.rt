@@ -1,7 +1,7 @@
 // What an attempt has open, and where each object stands in it.
-ghost use Rattle.std.specs.Prelude.{◌≡◌, ◌≢◌, ◌⊎◌, ℕ, List, ◌+◌, ◌*◌, ◌^◌, ◌<◌, ◌≤◌, [], ◌∷◌, ◌++◌, true, None, IfOk, IsSome, filter, length, map, vec_capacity};
+ghost use Rattle.std.specs.Prelude.{◌≡◌, ◌≢◌, ◌⊎◌, ℕ, List, ◌+◌, ◌*◌, ◌^◌, ◌<◌, ◌≤◌, [], ◌∷◌, ◌++◌, true, None, IfOk, IsSome, OnOk, filter, length, map, vec_capacity};
 ghost use Rattle.dstm_steps.specs.Reads.{kept};
-ghost use Rattle.dstm_engine.specs.Mirror.{slot_word};
+ghost use Rattle.dstm_engine.specs.Mirror.{slot_old, slot_value, slot_word};
 ghost use Rattle.dstm_engine.specs.Opened.{OpenedAs, is_kept, place_at, read_at, read_slot, slots_value, with_set_slot, without_read, write_at, write_slot, AreApart, AreReadPlaces};
 ghost use Rattle.dstm_steps.specs.declared.slots.WriteSlot.{WriteSlot};
 
@@ -106,6 +106,15 @@ impl Opened {
         &self.writes
     }
 
+    // Copies what is held: the values of the reads, and the old ones of the objects open for writing.
+    pub fn copy_held(&self, values: &mut Vec<(u32, Val)>) -> Result<(), AllocError>
+        ensures { OnOk result (values.new.items ≡ map slot_value self.now.reads ++ map slot_old self.now.writes) }
+    {
+        values.clear();
+        copy_reads(&self.reads, values)?;
+        copy_olds(&self.writes, values)
+    }
+
     // Records a read. Where more than half of the slots were let go the others move together first.
     pub fn push_read(&mut self, slot: ReadSlot)
         requires exists { slot.object < self.old.objects }
@@ -164,6 +173,28 @@ impl Opened {
         self.writes.clear();
         self.gone = 0;
     }
+}
+
+// Copies the values of the reads that are kept, behind others.
+fn copy_reads(reads: &[ReadSlot], values: &mut Vec<(u32, Val)>) -> Result<(), AllocError>
+    ensures { OnOk result (values.new.items ≡ values.old.items ++ map slot_value (filter is_kept reads.now)) }
+{
+    for slot in reads {
+        if slot.kept {
+            values.push((slot.object, slot.value))?;
+        }
+    }
+    Ok(())
+}
+
+// Copies the old values of objects open for writing, behind others.
+fn copy_olds(writes: &[WriteSlot], values: &mut Vec<(u32, Val)>) -> Result<(), AllocError>
+    ensures { OnOk result (values.new.items ≡ values.old.items ++ map slot_old writes.now) }
+{
+    for slot in writes {
+        values.push((slot.object, slot.old))?;
+    }
+    Ok(())
 }
 
 // Where more than half of the reads were let go the others move together, and else nothing changes.
