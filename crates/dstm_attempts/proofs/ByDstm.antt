@@ -33,7 +33,7 @@ beginning_in other (ByDstm b) = b
 beginning_in other (ByTl2 log) = other
 
 module _ {L : Type 0} where
-  abbrev home_in : Home L → Table L → Home L
+  abbrev pub home_in : Home L → Table L → Home L
   home_in other (table.Dstm h) = h
   home_in other (table.Tl2 h) = other
 
@@ -44,6 +44,10 @@ module _ {L : Type 0} where
       ∙ ap (λ (a : Attempt L).
       (local (home_in k.home a.home).terms.shape (beginning_in (beginning k) a.began).log a.number).begun) same
       ∙ sym (begun_there (shape_of k) k.number k.log)
+
+  -- and begins a new transaction next where it did before
+  pub fresh_kept : (k n : Called L) → Keeps (Dstm k) (Dstm n) → n.fresh ≡ k.fresh
+  fresh_kept k n same = ap (λ (a : Attempt L). (beginning_in (beginning k) a.began).fresh) same
 
   -- a call that is to end an attempt leaves none live
   pub quit : (holds : L → List Val → Type 0) (k n : Called L) → Performs holds Leaving k n None → IsQuit n

@@ -2,5 +2,6 @@ mod ByDstm
 mod ByTl2
 pub mod Closed
 mod ClosedByTl2
+mod Letting
 pub mod Settling
 pub mod UnderWay

@@ -11,6 +11,7 @@ use Rattle.dstm_tables.specs.declared.tables.Caller.{Caller}
 use Rattle.dstm_tables.specs.declared.tables.Caller.TheVariants.{Dstm, Tl2}
 use Rattle.dstm_tables.specs.declared.tables.Table.TheVariants as table
 use Rattle.dstm_attempts.specs.Attempts.{AddsNothing, Attempt, Exchanges, Finds, IsLost, IsQuit, IsSpent, IsStill, Keeps, MayBegin, Opens, Puts, SetsNothing, StoodTogether, TakesEffect, attempts_of, objects_of, renewed}
+use Rattle.dstm_attempts.specs.Waiting.{RenewsNothing}
 use Rattle.dstm_attempts.proofs.ByDstm as by_dstm
 use Rattle.dstm_attempts.proofs.ByTl2 as by_tl2
 
@@ -29,6 +30,28 @@ module _ {L : Type 0} where
     number = second.number ∙ first.number;
     done = second.done ∙ first.done;
   }
+
+  -- ---- whether its next attempt begins a new transaction
+
+  pub renews_kept : (k n : Caller L) → Keeps k n → RenewsNothing k n
+  renews_kept (Dstm k) (Dstm n) same = λ was. by_dstm.fresh_kept k n same ∙ was
+  renews_kept (Tl2 k) (Tl2 n) same = tt
+  renews_kept (Dstm k) (Tl2 n) same = absurd (apart (ap (λ (a : Attempt L). a.home) same))
+    where
+      apart : table.Tl2 n.home ≡ table.Dstm k.home → ⊥
+      apart is = cc
+  renews_kept (Tl2 k) (Dstm n) same = absurd (apart (ap (λ (a : Attempt L). a.home) same))
+    where
+      apart : table.Dstm n.home ≡ table.Tl2 k.home → ⊥
+      apart is = cc
+
+  pub renews_twice : (k m n : Caller L) → RenewsNothing k m → RenewsNothing m n → RenewsNothing k n
+  renews_twice (Dstm k) (Dstm m) (Dstm n) first second = λ was. second (first was)
+  renews_twice (Tl2 k) (Tl2 m) (Tl2 n) first second = tt
+  renews_twice (Dstm k) (Dstm m) (Tl2 n) first second = absurd second
+  renews_twice (Tl2 k) (Tl2 m) (Dstm n) first second = absurd second
+  renews_twice (Dstm k) (Tl2 m) n first second = absurd first
+  renews_twice (Tl2 k) (Dstm m) n first second = absurd first
 
   -- ---- its table
 

@@ -1,13 +1,15 @@
-ghost use Rattle.std.specs.Prelude.{◌≡◌, ◌<◌, List, true, false, IfErr, IfOk, OnOk};
+ghost use Rattle.std.specs.Prelude.{◌≡◌, ◌<◌, ◌≤◌, List, true, false, IfErr, IfOk, Ok, OnOk};
 ghost use Rattle.dstm_model.specs.declared.value.Val.{Val};
 ghost use Rattle.dstm_tables.specs.Callers.{begun, home_of};
 ghost use Rattle.dstm_attempts.specs.Attempts.{AddsNothing, Begins, Finds, Flags, IsClosed, IsLost, IsNotOpened, IsOpened, IsQuit, IsSpent, IsStill, Keeps, LeavesLawful, LooksChanged, LooksSame, LooksSpent, MayBegin, Opens, Puts, Refuses, StoodTogether, TakesEffect, attempts_of, clock, is_under_way, objects_of, renewed};
+ghost use Rattle.dstm_attempts.specs.Waiting.{FindsChange, HasNoRoom, IsSpentLettingGo, LetsGo, RenewsNothing};
 ghost use Rattle.dstm_attempts.specs.declared.error.Look.TheVariants as look;
 
 use crate::error::{Look, NotOpened, Spent};
 use crate::{dstm, tl2};
 use dstm_model::{Law, Val};
 use dstm_tables::{Caller, Table};
+use std::alloc::{AllocError, Global};
 
 /// What makes the attempts of a caller, one after the other, call by call.
 #[derive(Drop)]
@@ -15,18 +17,21 @@ pub struct Attempts<L: Law> {
     caller: Caller<L>,
     // An attempt is under way: no call on it answered that it is over, and it has not committed.
     going: bool,
+    // Room for what an attempt holds that lets go.
+    values: Vec<(u32, Val)>,
     ghost under_way: { Flags going caller },
 }
 
 impl<L: Law> Attempts<L> {
     /// The attempts of a caller that has none under way.
-    pub fn of(caller: Caller<L>) -> Attempts<L>
+    pub fn of(alloc: Global, caller: Caller<L>) -> Attempts<L>
         requires closed { IsClosed caller }
         ensures { result.caller ≡ caller }
     {
         Attempts {
             caller,
             going: false,
+            values: Vec::new(alloc),
         }
     }
 
@@ -227,6 +232,28 @@ impl<L: Law> Attempts<L> {
                 Table::Tl2(_) => unreachable!(),
             },
             Caller::Tl2(_) => {}
+        }
+    }
+
+    /// Lets go of what the attempt has set, before it is looked whether something has changed. By DSTM another attempt of its
+    /// transaction is begun, which opens for reading what this one holds: where it does not find the same values, something has
+    /// changed, and it is left. By TL2 an attempt holds nothing that others meet, and nothing is done.
+    pub fn let_go(&mut self, table: &Table<L>) -> Result<Look, AllocError>
+        requires table { home_of self.old.caller ≡ table.now }
+        ensures same { result ≡ Ok look.Same → LetsGo L.holds self.old.caller self.new.caller }
+        ensures changed { result ≡ Ok look.Changed → FindsChange L.holds self.old.caller self.new.caller }
+        ensures spent { result ≡ Ok look.Spent → IsSpentLettingGo self.old.caller self.new.caller }
+        ensures memory { IfErr result (λ _. HasNoRoom self.old.caller self.new.caller) }
+        ensures begun { begun self.old.caller ≤ begun self.new.caller }
+        ensures nothing { AddsNothing self.old.caller self.new.caller }
+        ensures renews { RenewsNothing self.old.caller self.new.caller }
+    {
+        match &mut self.caller {
+            Caller::Dstm(caller) => match table {
+                Table::Dstm(stm) => dstm::let_go(caller, &mut self.going, stm, &mut self.values),
+                Table::Tl2(_) => unreachable!(),
+            },
+            Caller::Tl2(_) => Ok(Look::Same),
         }
     }
 

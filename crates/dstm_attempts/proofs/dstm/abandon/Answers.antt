@@ -11,5 +11,5 @@ returns-clause-quit g c =
     in_the_end IsQuit _ _ _ _ (assumption c) (sym c.resume.ensures.same)
     (quit g.L.Law.holds c.resume.result.caller.now _ c.abandon.ensures.steps)
 
-pub returns-clause-going : goal.returns-clause-going
-returns-clause-going g c = c.is_live.ensures ∙ (returns-clause-quit g c).over
+pub returns-clause-flags : goal.returns-clause-flags
+returns-clause-flags g c = (λ on. absurd (cc), λ off. (returns-clause-quit g c).over)

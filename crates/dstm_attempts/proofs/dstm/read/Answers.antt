@@ -1,11 +1,10 @@
-use Rattle.std.proofs.Common.{◌∙◌, ◌<◌, ap, arith, false, subst, sym}
-use Rattle.dstm_core.specs.declared.shape.Shape.{Shape}
+use Rattle.std.proofs.Common.{◌∙◌, ◌<◌, ap, false, subst, sym}
 use Rattle.dstm_mem.proofs.InTheEnd.{in_the_end}
-use Rattle.dstm_words.specs.Seats.{Home}
 use Rattle.dstm_engine.specs.Callers.{Called, shape_of}
 use Rattle.dstm_tables.specs.declared.tables.Caller.TheVariants.{Dstm}
 use Rattle.dstm_attempts.specs.declared.error.NotOpened.TheVariants.{Over}
 use Rattle.dstm_attempts.specs.Attempts.{Finds, IsNotOpened}
+use Rattle.dstm_attempts.specs.Waiting.{OpensNoMore}
 use Rattle.dstm_attempts.proofs.ByDstm.{finds, not_opened_left}
 use Rattle.dstm_attempts.proofs.dstm.read.Goals as goal
 
@@ -16,18 +15,12 @@ returns-in-Ok-clause-finds g c =
     let holds = g.L.Law.holds in
     let k = c.resume-tx.result.caller.now in
     let new = c.open_read.new.self.caller.now in
-    let within : c.args.object < (shape_of c.args.caller.now).objects =
-    omega (
-      arith,
-      c.if-object-shape.false,
-      ap (λ (s : Shape). s.objects) c.shape.ensures,
-      ap (λ (h : Home _). h.terms.shape.objects) c.requires.table,
-    ) in
     in_the_end (λ (n : Called _). Finds holds (Dstm c.args.caller.now) (Dstm n) c.args.object c.in-Ok.value) _ _ _ _
     (assumption c) (sym (c.open_read.ensures.reference ∙ c.resume-tx.ensures.same))
     (subst (λ (k : Called _). Finds holds (Dstm k) (Dstm new) c.args.object c.in-Ok.value) c.resume-tx.ensures.attempt
     (finds holds k new c.args.object c.in-Ok.value (ap (λ (n : Called _). n.set) c.open_read.ensures.kept)
-    (subst (λ (k : Called _). c.args.object < (shape_of k).objects) (sym c.resume-tx.ensures.attempt) within)
+    (subst (λ (k : Called _). c.args.object < (shape_of k).objects) (sym c.resume-tx.ensures.attempt)
+    c.in_ok-may_open.ensures.exists)
     c.open_read.ensures.narrows c.in-Ok.ensures.value))
 
 pub returns-in-Err-clause-stops : goal.returns-in-Err-clause-stops
@@ -40,3 +33,11 @@ returns-in-Err-clause-stops g c =
     (subst (λ (k : Called _). IsNotOpened holds false c.args.object (Dstm k) (Dstm new) Over) c.resume-tx.ensures.attempt
     (not_opened_left holds false c.args.object k new c.in-Err.field-0 c.in-Err.ensures.leaves c.in-Err.ensures.live
     (ap (λ (n : Called _). n.set) c.open_read.ensures.kept) c.open_read.ensures.narrows))
+
+pub returns-in-Ok-clause-unmarked : goal.returns-in-Ok-clause-unmarked
+returns-in-Ok-clause-unmarked g c =
+    let new = c.open_read.new.self.caller.now in
+    in_the_end (OpensNoMore c.args.caller.now) _ _ _ new (assumption c)
+    (sym (c.open_read.ensures.reference ∙ c.resume-tx.ensures.same))
+    (subst (λ (k : Called _). OpensNoMore k new) c.resume-tx.ensures.attempt
+    (record { unmarked = c.in-Ok.ensures.unmarked }))

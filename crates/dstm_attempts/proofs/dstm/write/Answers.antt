@@ -1,7 +1,5 @@
-use Rattle.std.proofs.Common.{◌∙◌, ◌<◌, ap, arith, true, subst, sym}
-use Rattle.dstm_core.specs.declared.shape.Shape.{Shape}
+use Rattle.std.proofs.Common.{◌∙◌, ◌<◌, ap, true, subst, sym}
 use Rattle.dstm_mem.proofs.InTheEnd.{in_the_end}
-use Rattle.dstm_words.specs.Seats.{Home}
 use Rattle.dstm_engine.specs.Callers.{Called, shape_of}
 use Rattle.dstm_tables.specs.declared.tables.Caller.TheVariants.{Dstm}
 use Rattle.dstm_attempts.specs.declared.error.NotOpened.TheVariants.{Over}
@@ -16,18 +14,12 @@ returns-in-Ok-clause-finds g c =
     let holds = g.L.Law.holds in
     let k = c.resume-tx.result.caller.now in
     let new = c.open_write.new.self.caller.now in
-    let within : c.args.object < (shape_of c.args.caller.now).objects =
-    omega (
-      arith,
-      c.if-object-shape.false,
-      ap (λ (s : Shape). s.objects) c.shape.ensures,
-      ap (λ (h : Home _). h.terms.shape.objects) c.requires.table,
-    ) in
     in_the_end (λ (n : Called _). Finds holds (Dstm c.args.caller.now) (Dstm n) c.args.object c.in-Ok.value) _ _ _ _
     (assumption c) (sym (c.open_write.ensures.reference ∙ c.resume-tx.ensures.same))
     (subst (λ (k : Called _). Finds holds (Dstm k) (Dstm new) c.args.object c.in-Ok.value) c.resume-tx.ensures.attempt
     (finds holds k new c.args.object c.in-Ok.value (ap (λ (n : Called _). n.set) c.open_write.ensures.kept)
-    (subst (λ (k : Called _). c.args.object < (shape_of k).objects) (sym c.resume-tx.ensures.attempt) within)
+    (subst (λ (k : Called _). c.args.object < (shape_of k).objects) (sym c.resume-tx.ensures.attempt)
+    c.in_ok-may_open.ensures.exists)
     c.open_write.ensures.narrows c.in-Ok.ensures.value))
 
 pub returns-in-Err-clause-stops : goal.returns-in-Err-clause-stops
