@@ -6,8 +6,9 @@ use Rattle.dstm_tables.specs.declared.tables.Caller.{Caller}
 use Rattle.dstm_tables.specs.declared.tables.Caller.TheVariants.{Dstm, Tl2}
 use Rattle.dstm_tables.specs.declared.tables.Table.TheVariants as table
 use Rattle.dstm_attempts.specs.Attempts.{AddsNothing, Attempt, Keeps, LooksChanged, LooksSame, LooksSpent, attempt, begun, clock}
-use Rattle.dstm_attempts.proofs.UnderWay.{adds_nothing, begins_none, nothing_twice}
-use Rattle.dstm_cells.specs.Attempts.{StaysFor, StaysLooking, looked}
+use Rattle.dstm_attempts.specs.Waiting.{RenewsNothing}
+use Rattle.dstm_attempts.proofs.UnderWay.{adds_nothing, begins_none, nothing_twice, renews_kept, renews_twice}
+use Rattle.dstm_cells.specs.Attempts.{StaysFor, StaysLooking, StaysWaiting, looked}
 use Rattle.dstm_cells.specs.declared.error.Why.{Why}
 use Rattle.dstm_cells.specs.declared.error.Why.TheVariants.{Again, Retry, Foreign, Memory}
 
@@ -23,21 +24,6 @@ module _ {L : Type 0} where
   pub stays_same : (k : Caller L) → StaysLooking k k
   stays_same (Dstm k) = refl
   stays_same (Tl2 k) = (nothing_added (Tl2 k), omega arith)
-
-  -- an attempt that stays, behind looks
-  pub stays_kept : (k m n : Caller L) → StaysLooking k m → Keeps m n → StaysLooking k n
-  stays_kept (Dstm k) (Dstm m) (Dstm n) stays keeps = keeps ∙ stays
-  stays_kept (Tl2 k) (Tl2 m) (Tl2 n) stays keeps =
-      let none = begins_none (Tl2 m) (Tl2 n) keeps in
-      let more = stays.1 in (
-        nothing_twice (Tl2 k) (Tl2 m) (Tl2 n) stays.0 (adds_nothing (Tl2 m) (Tl2 n) keeps),
-        omega (arith, none, more),
-      )
-  stays_kept (Dstm k) (Dstm m) (Tl2 n) stays keeps =
-      let home : table.Tl2 n.home ≡ table.Dstm m.home = apart (Dstm m) (Tl2 n) keeps in absurd (cc)
-  stays_kept (Tl2 k) (Tl2 m) (Dstm n) stays keeps =
-      let home : table.Dstm n.home ≡ table.Tl2 m.home = apart (Tl2 m) (Dstm n) keeps in absurd (cc)
-  stays_kept k m n stays keeps = absurd stays
 
   -- a look that has found no change
   pub looks_on : (first k n : Caller L) (since : ℕ) → StaysLooking first k → LooksSame since k n →
@@ -81,11 +67,40 @@ module _ {L : Type 0} where
   spends_on first k n stays look = absurd stays
 
   -- looking has committed nothing, and begun no less
-  pub stays_nothing : (k n : Caller L) → StaysLooking k n → AddsNothing k n × (begun k ≤ begun n)
-  stays_nothing (Dstm k) (Dstm n) stays =
-      let none = begins_none (Dstm k) (Dstm n) stays in (adds_nothing (Dstm k) (Dstm n) stays, omega (arith, none))
-  stays_nothing (Tl2 k) (Tl2 n) stays = stays
-  stays_nothing k n stays = absurd stays
+  pub looking_waits : (k n : Caller L) → StaysLooking k n → StaysWaiting k n
+  looking_waits (Dstm k) (Dstm n) stays =
+      let none = begins_none (Dstm k) (Dstm n) stays in
+      record {
+        nothing = adds_nothing (Dstm k) (Dstm n) stays;
+        begun = omega (arith, none);
+        renews = renews_kept (Dstm k) (Dstm n) stays;
+      }
+  looking_waits (Tl2 k) (Tl2 n) stays = record { nothing = stays.0; begun = stays.1; renews = tt }
+  looking_waits (Dstm k) (Tl2 n) stays = absurd stays
+  looking_waits (Tl2 k) (Dstm n) stays = absurd stays
+
+  -- an attempt that has let go, and looks behind it
+  pub waits_on : (k m n : Caller L) → AddsNothing k m → begun k ≤ begun m → RenewsNothing k m → StaysLooking m n →
+      StaysWaiting k n
+  waits_on k m n nothing more renews stays =
+      let looked = looking_waits m n stays in
+      let later = looked.begun in
+      record {
+        nothing = nothing_twice k m n nothing looked.nothing;
+        begun = omega (arith, more, later);
+        renews = renews_twice k m n renews looked.renews;
+      }
+
+  -- an attempt that stays, behind a wait
+  pub waits_kept : (k m n : Caller L) → StaysWaiting k m → Keeps m n → StaysWaiting k n
+  waits_kept k m n stays keeps =
+      let more = stays.begun in
+      let none = begins_none m n keeps in
+      record {
+        nothing = nothing_twice k m n stays.nothing (adds_nothing m n keeps);
+        begun = omega (arith, more, none);
+        renews = renews_twice k m n stays.renews (renews_kept m n keeps);
+      }
 
   pub kept_nothing : (k n : Caller L) → Keeps k n → AddsNothing k n × (begun k ≤ begun n)
   kept_nothing k n keeps = let none = begins_none k n keeps in (adds_nothing k n keeps, omega (arith, none))
@@ -93,13 +108,13 @@ module _ {L : Type 0} where
   -- a stop has committed nothing, and begun no less
   pub stop_nothing : (why : Why) (k n : Caller L) → StaysFor why k n → AddsNothing k n × (begun k ≤ begun n)
   stop_nothing Again k n stays = kept_nothing k n stays
-  stop_nothing Retry k n stays = stays_nothing k n stays
+  stop_nothing Retry k n stays = (stays.nothing, stays.begun)
   stop_nothing Foreign k n stays = kept_nothing k n stays
   stop_nothing Memory k n stays = kept_nothing k n stays
 
   -- an attempt that stays, behind a stop
   pub stop_kept : (why : Why) (k m n : Caller L) → StaysFor why k m → Keeps m n → StaysFor why k n
   stop_kept Again k m n stays keeps = keeps ∙ stays
-  stop_kept Retry k m n stays keeps = stays_kept k m n stays keeps
+  stop_kept Retry k m n stays keeps = waits_kept k m n stays keeps
   stop_kept Foreign k m n stays keeps = keeps ∙ stays
   stop_kept Memory k m n stays keeps = keeps ∙ stays

@@ -5,6 +5,7 @@ use Rattle.dstm_engine.specs.Attempts.{sights}
 use Rattle.dstm_tables.specs.declared.tables.Caller.{Caller}
 use Rattle.dstm_tables.specs.declared.tables.Caller.TheVariants.{Dstm, Tl2}
 use Rattle.dstm_attempts.specs.Attempts.{AddsNothing, IsSpent, Keeps, LooksChanged, LooksSpent, begun, clock}
+use Rattle.dstm_attempts.specs.Waiting.{FindsChange, HasNoRoom, IsSpentLettingGo, LetsGo, RenewsNothing}
 use Rattle.dstm_cells.specs.declared.error.GaveUp.{GaveUp}
 use Rattle.dstm_cells.specs.declared.error.GaveUp.TheVariants.{Idle, Spent}
 use Rattle.dstm_cells.specs.declared.error.GaveUp.TheVariants as gave_up
@@ -30,10 +31,16 @@ module _ {L : Type 0} where
   StaysLooking (Tl2 old) (Tl2 new) = AddsNothing (Tl2 old) (Tl2 new) × (begun (Tl2 old) ≤ begun (Tl2 new))
   StaysLooking old new = ⊥
 
+  -- what waiting leaves: attempts of the same transaction were begun, and nothing more was committed
+  pub record StaysWaiting (old new : Caller L) : Type 0 where
+    pub nothing : AddsNothing old new
+    pub begun : begun old ≤ begun new
+    pub renews : RenewsNothing old new
+
   -- what a stop leaves: the same attempt, but for a retry
   abbrev pub StaysFor : Why → Caller L → Caller L → Type 0
   StaysFor Again old new = Keeps old new
-  StaysFor Retry old new = StaysLooking old new
+  StaysFor Retry old new = StaysWaiting old new
   StaysFor Foreign old new = Keeps old new
   StaysFor Memory old new = Keeps old new
 
@@ -61,13 +68,31 @@ module _ {L : Type 0} where
       pub new : Caller L
       pub spent : LooksSpent last new
 
-    -- WHAT FOLLOWS A RETRY: it was waited
+    -- what follows looks
+    abbrev pub FollowsLooks : (looks : ℕ) → Caller L → Result (Unit {0}) GaveUp → Type 0
+    FollowsLooks looks k (Ok x) = WasWoken k
+    FollowsLooks looks k (Err Spent) = IsSpentWaiting k
+    FollowsLooks looks k (Err Idle) = WaitedInVain looks k
+    FollowsLooks looks k (Err gave_up.Foreign) = ⊥
+    FollowsLooks looks k (Err gave_up.Memory) = ⊥
+
+    -- where an attempt has not let go of what it had set: something had changed; or no attempt, or no memory, was left for that
+    abbrev pub DoesNotLetGo : Caller L → Caller L → Result (Unit {0}) GaveUp → Type 0
+    DoesNotLetGo k n (Ok x) = FindsChange holds k n
+    DoesNotLetGo k n (Err Spent) = IsSpentLettingGo k n
+    DoesNotLetGo k n (Err Idle) = ⊥
+    DoesNotLetGo k n (Err gave_up.Foreign) = ⊥
+    DoesNotLetGo k n (Err gave_up.Memory) = HasNoRoom k n
+
+    -- an attempt has let go of what it had set, and then it was looked
+    pub record LooksWithoutHolding (looks : ℕ) (k : Caller L) (next : Result (Unit {0}) GaveUp) : Type 0 where
+      pub first : Caller L
+      pub lets_go : LetsGo holds k first
+      pub follows : FollowsLooks looks first next
+
+    -- WHAT FOLLOWS A RETRY: the attempt let go of what it had set, and it was waited
     abbrev pub FollowsRetry : (looks : ℕ) → Caller L → Result (Unit {0}) GaveUp → Type 0
-    FollowsRetry looks k (Ok x) = WasWoken k
-    FollowsRetry looks k (Err Spent) = IsSpentWaiting k
-    FollowsRetry looks k (Err Idle) = WaitedInVain looks k
-    FollowsRetry looks k (Err gave_up.Foreign) = ⊥
-    FollowsRetry looks k (Err gave_up.Memory) = ⊥
+    FollowsRetry looks k next = LooksWithoutHolding looks k next ⊎ ((n : Caller L) × DoesNotLetGo k n next)
 
     -- WHAT FOLLOWS WHERE A CLOSURE STOPS ITS ATTEMPT: a further attempt, or none, and why
     abbrev pub Follows : (looks : ℕ) → Caller L → Why → Result (Unit {0}) GaveUp → Type 0

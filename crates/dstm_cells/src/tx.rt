@@ -3,7 +3,7 @@ ghost use Rattle.std.specs.Prelude.{◌++◌, ◌⊎◌, ◌≡◌, List, [], �
 ghost use Rattle.dstm_tables.specs.Callers.{home_of, law_of};
 ghost use Rattle.dstm_attempts.specs.Attempts.{Exchanges, Finds, IsClosed, IsUntouched, Keeps, MayBegin, objects_of};
 ghost use Rattle.dstm_cells.specs.Alternatives.{Notes, NotesOnce, OrElse, noting, settings};
-ghost use Rattle.dstm_cells.specs.Attempts.{CouldNotRead, Follows, FollowsRetry, StaysFor, StaysLooking};
+ghost use Rattle.dstm_cells.specs.Attempts.{CouldNotRead, Follows, FollowsLooks, FollowsRetry, StaysFor, StaysLooking, StaysWaiting};
 ghost use Rattle.dstm_cells.specs.Cells.{ReadsAll};
 ghost use Rattle.dstm_cells.specs.Closures.{KeepsOnce};
 ghost use Rattle.dstm_cells.specs.UnderWay.{Changes, Gets, Refuses, StopsChange, StopsLook, stop_by};
@@ -36,7 +36,7 @@ impl<'a, L: Law> Tx<'a, L> {
         ensures looks { result.looks ≡ LOOKS }
     {
         Tx {
-            attempts: Attempts::of(caller),
+            attempts: Attempts::of(alloc, caller),
             table,
             undos: Vec::new(alloc),
             notes: false,
@@ -166,10 +166,23 @@ impl<'a, L: Law> Tx<'a, L> {
         }
     }
 
-    // Waits until a look finds that something has changed. It gives way at each look.
+    // Waits until something has changed. First the attempt lets go of what it has set, so that it stands in nobody's way.
     fn wait(&mut self) -> Result<(), GaveUp>
-        ensures stays { StaysLooking self.old.attempts.caller self.new.attempts.caller }
+        ensures stays { StaysWaiting self.old.attempts.caller self.new.attempts.caller }
         ensures follows { FollowsRetry L.holds self.old.looks self.old.attempts.caller result }
+    {
+        match self.attempts.let_go(self.table) {
+            Ok(Look::Same) => self.look_on(),
+            Ok(Look::Changed) => Ok(()),
+            Ok(Look::Spent) => Err(GaveUp::Spent),
+            Err(_) => Err(GaveUp::Memory),
+        }
+    }
+
+    // Looks until something has changed. It gives way at each look.
+    fn look_on(&mut self) -> Result<(), GaveUp>
+        ensures stays { StaysLooking self.old.attempts.caller self.new.attempts.caller }
+        ensures follows { FollowsLooks L.holds self.old.looks self.old.attempts.caller result }
     {
         let began = self.attempts.clock();
         for _look in 0..self.looks {

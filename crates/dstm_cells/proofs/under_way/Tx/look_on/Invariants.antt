@@ -1,7 +1,7 @@
 use Rattle.std.proofs.Common.{◌≡◌, ◌+◌}
 use Rattle.dstm_attempts.specs.Attempts.{clock}
 use Rattle.dstm_cells.specs.Attempts.{StaysLooking, looked}
-use Rattle.dstm_cells.proofs.under_way.Tx.wait.Given as goal
+use Rattle.dstm_cells.proofs.under_way.Tx.look_on.Given as goal
 
 -- each look so far has found nothing changed
 abbrev pub invariant-loop-look : goal.invariant-loop-look
