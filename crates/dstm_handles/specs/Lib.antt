@@ -3,3 +3,4 @@ pub mod Memories
 pub mod Owned
 pub mod Threads
 pub mod Undoing
+pub mod Waiting

@@ -1,12 +1,14 @@
 // The calls of a thread's part.
-ghost use Rattle.std.specs.Prelude.{◌≡◌, ◌≢◌, ◌<◌, ◌++◌, List, [], ◌∷◌, length, true, false, None, IfErr, IfOk, IfSome, OnOk};
+ghost use Rattle.std.specs.Prelude.{◌≡◌, ◌≢◌, ◌<◌, ◌++◌, List, [], ◌∷◌, length, true, false, None, IfErr, IfOk, IfSome, Ok, OnOk};
 ghost use Rattle.std.specs.Arc.{arc_value};
 ghost use Rattle.dstm_attempts.specs.Attempts.{AddsNothing, Begins, Exchanges, Finds, IsClosed, IsSpent, LooksChanged, LooksSame, LooksSpent, MayBegin, SetsNothing, TakesEffect, clock, goes_on};
 ghost use Rattle.dstm_model.specs.declared.value.Val.{Val};
 ghost use Rattle.dstm_tables.specs.Callers.{home_of};
 ghost use Rattle.dstm_handles.specs.Threads.{GoesOn, MayCall, Refuses, RefusesAll, RefusesBy, code_for, starting};
 ghost use Rattle.dstm_handles.specs.Undoing.{IsNoted, Undoes};
-ghost use Rattle.dstm_handles.specs.declared.code.Code.TheVariants.{Again, Done, Idle, Open, Range, Spent};
+ghost use Rattle.dstm_handles.specs.Waiting.{FindsChange, FindsChangeBefore, FindsNoChange, HasNoRoom, HasNoRoomBefore, IsSpentBefore, IsSpentLooking, LetsGoBefore};
+ghost use Rattle.dstm_attempts.specs.declared.error.Look.TheVariants as look;
+ghost use Rattle.dstm_handles.specs.declared.code.Code.TheVariants.{Again, Done, Idle, Memory, Open, Range, Spent};
 ghost use Rattle.dstm_handles.specs.declared.thread.Undo.{Undo};
 
 use crate::code::Code;
@@ -14,7 +16,7 @@ use crate::thread::{Thread, Undo};
 use dstm_attempts::{Attempts, Look, NotOpened};
 use dstm_model::{AnyLaw, Law, Val};
 use dstm_tables::{Caller, Table};
-use std::alloc::{AllocFailed, Global};
+use std::alloc::{AllocError, AllocFailed, Global};
 use std::sync::Arc;
 
 impl Thread {
@@ -31,7 +33,7 @@ impl Thread {
     {
         Thread {
             table,
-            attempts: Attempts::of(caller),
+            attempts: Attempts::of(alloc, caller),
             begun: false,
             waits: false,
             since: 0,
@@ -176,12 +178,13 @@ impl Thread {
     }
 
     /// One look whether something that the transaction has read may have changed: `Done` where nothing has, and
-    /// `Again` where something has. From its first look on a transaction can only look, begin again, or be given up.
+    /// `Again` where something has. At its first look a transaction lets go of what it has set, and from then on it can
+    /// only look, begin again, or be given up.
     pub fn look(&mut self) -> Code
-        ensures same { result ≡ Done → LooksSame self.old.since self.old.attempts.caller self.new.attempts.caller }
-        ensures changed { result ≡ Again → LooksChanged ⟦<AnyLaw as Law>⟧.holds self.old.since
-            self.old.attempts.caller self.new.attempts.caller }
-        ensures spent { result ≡ Spent → LooksSpent self.old.attempts.caller self.new.attempts.caller }
+        ensures same { result ≡ Done → FindsNoChange self.old self.new }
+        ensures changed { result ≡ Again → FindsChange self.old self.new }
+        ensures spent { result ≡ Spent → IsSpentLooking self.old self.new }
+        ensures memory { result ≡ Memory → HasNoRoom self.old self.new }
         ensures waits { result ≢ Idle → self.new.waits ≡ true }
         ensures since { self.new.since ≡ self.old.since }
         ensures idle { self.old.begun ≡ false → result ≡ Idle }
@@ -190,7 +193,48 @@ impl Thread {
         if !self.begun {
             return Code::Idle;
         }
+        match self.let_go() {
+            Ok(Look::Same) => self.look_on(),
+            Ok(Look::Changed) => Code::Again,
+            Ok(Look::Spent) => {
+                self.begun = false;
+                Code::Spent
+            }
+            Err(_) => Code::Memory,
+        }
+    }
+
+    // Lets go of what the transaction has set, where it has not looked yet.
+    fn let_go(&mut self) -> Result<Look, AllocError>
+        ensures same { result ≡ Ok look.Same → LetsGoBefore self.old.waits self.old.attempts.caller self.new.attempts.caller }
+        ensures changed { result ≡ Ok look.Changed → FindsChangeBefore self.old.waits self.old.attempts.caller
+            self.new.attempts.caller }
+        ensures spent { result ≡ Ok look.Spent → IsSpentBefore self.old.waits self.old.attempts.caller
+            self.new.attempts.caller }
+        ensures memory { IfErr result (λ _. HasNoRoomBefore self.old.waits self.old.attempts.caller
+            self.new.attempts.caller) }
+        ensures waits { self.new.waits ≡ true }
+        ensures since { self.new.since ≡ self.old.since }
+        ensures nothing { AddsNothing self.old.attempts.caller self.new.attempts.caller }
+    {
+        if self.waits {
+            return Ok(Look::Same);
+        }
         self.waits = true;
+        self.attempts.let_go(&self.table)
+    }
+
+    // One look, where the transaction holds nothing that others meet.
+    fn look_on(&mut self) -> Code
+        ensures same { result ≡ Done → LooksSame self.old.since self.old.attempts.caller self.new.attempts.caller }
+        ensures changed { result ≡ Again → LooksChanged ⟦<AnyLaw as Law>⟧.holds self.old.since
+            self.old.attempts.caller self.new.attempts.caller }
+        ensures spent { result ≡ Spent → LooksSpent self.old.attempts.caller self.new.attempts.caller }
+        ensures only { (result ≢ Memory) × (result ≢ Idle) }
+        ensures waits { self.new.waits ≡ self.old.waits }
+        ensures since { self.new.since ≡ self.old.since }
+        ensures nothing { AddsNothing self.old.attempts.caller self.new.attempts.caller }
+    {
         match self.attempts.look(&self.table, self.since) {
             Look::Same => Code::Done,
             Look::Changed => Code::Again,
