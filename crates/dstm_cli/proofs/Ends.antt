@@ -87,7 +87,7 @@ not_refused : (command : Option Command) (input : List ℕ) (after : Option (Lis
     Answers command (Some input, after) records text status → Refuses command input failure → ⊥
 not_refused None input after records text status failure answers refuses = absurd answers
 not_refused (Some (Run options)) input after records text status failure answers refuses =
-    ok-err (run_input input) answers.1.0 failure answers.1.1.1.1 refuses
+    ok-err (run_input input) answers.1.0 failure answers.1.1.1.1.1 refuses
 not_refused (Some Check) input after records text status failure answers refuses =
     ok-err (check_input input) answers.1.1.2.0 failure answers.1.1.2.1.1.1 refuses
 not_refused (Some (Gen spec)) input after records text status failure answers refuses = absurd refuses

@@ -14,6 +14,7 @@ use Rattle.dstm_gen.specs.Generated.{generated}
 use Rattle.dstm_workload.specs.declared.workload.Workload.{Workload}
 use Rattle.dstm_workload.specs.declared.refused.Refused.{Refused as Refusal}
 use Rattle.dstm_workload.specs.Reading.{workload_of}
+use Rattle.dstm_workload.specs.Workload.{IsValidWorkload}
 use Rattle.dstm_workload.specs.Writing.{text_of_workload}
 use Rattle.dstm_report.specs.declared.report.Report.{Report}
 use Rattle.dstm_report.specs.declared.verdict.Verdict.{Verdict}
@@ -127,10 +128,11 @@ pub record IsDemo (spec : GenSpec) (records : List Round) (text : List ℕ) : Ty
 abbrev pub OfAll : Option (List ℕ) × Option (List ℕ) → (List ℕ → Type 0) → Type 0
 OfAll left P = IfSome left.0 (λ input. (left.1 ≡ Some []) × P input)
 
--- the input stands for a workload, the text is that of a lawful report on it, and the records stand for the report
+-- the input stands for a valid workload, the text is that of a lawful report on it, for which
+-- the records stand
 abbrev pub HasRun : Options → Option (List ℕ) × Option (List ℕ) → List Round → List ℕ → Type 0
 HasRun options left records text = (workload : Workload) × (IsReportOf workload options records text ×
-    OfAll left (λ input. run_input input ≡ Ok workload))
+    (IsValidWorkload workload × OfAll left (λ input. run_input input ≡ Ok workload)))
 
 -- the input stands for a workload and a report, and the text and the status are those of the verdict on it
 abbrev pub HasJudged : Option (List ℕ) × Option (List ℕ) → List ℕ → ℕ → Type 0
@@ -148,12 +150,12 @@ Answers (Some (Gen spec)) left records text status =
     (records ≡ []) × (status ≡ 0) × (text ≡ text_of_workload (workload_for spec))
 Answers (Some (Demo spec)) left records text status = (status ≡ 0) × IsDemo spec records text
 
--- The records are those of the first rounds of a run of the workload that the command runs, one behind the other. Where it
--- runs none, or its input was not read, there are none.
+-- The records are those of the first rounds of a run of the valid workload that the command runs, one behind the other.
+-- Where it runs none, or its input was not read, there are none.
 abbrev pub WereClosed : Option Command → Option (List ℕ) × Option (List ℕ) → List Round → Type 0
 WereClosed (Some (Run options)) left records =
     (records ≡ []) ⊎ ((workload : Workload) × (AreFirstRounds workload options records
-    × OfAll left (λ input. run_input input ≡ Ok workload)))
+    × (IsValidWorkload workload × OfAll left (λ input. run_input input ≡ Ok workload))))
 WereClosed (Some (Demo spec)) left records = AreFirstRounds (workload_for spec) default_options records
 WereClosed command left records = records ≡ []
 

@@ -122,12 +122,14 @@ fn run_text<R: Threads + Sync, G: Gate + Sync>(
     rounds: &mut Rounds,
 ) -> Result<Vec<u8>, Failure>
     requires { length input.items ≤ RUN_LIMIT }
-    ensures text { IfOk result (λ text. (workload : TheWorkload) × ((run_input input.items ≡ Ok workload)
+    ensures text { IfOk result (λ text. (workload : TheWorkload)
+        × (((run_input input.items ≡ Ok workload) × IsValidWorkload workload)
         × IsReportOf workload options.now (added rounds.old rounds.new) text.items)) }
     ensures failed { IfErr result (Fails (λ text failure. run_input text ≡ Err failure) (Some input.items) 0 0) }
     ensures behind { rounds.new ≡ rounds.old ++ added rounds.old rounds.new }
     ensures closed { (added rounds.old rounds.new ≡ []) ⊎ ((workload : TheWorkload)
-        × (AreFirstRounds workload options.now (added rounds.old rounds.new) × (run_input input.items ≡ Ok workload))) }
+        × (AreFirstRounds workload options.now (added rounds.old rounds.new)
+        × ((run_input input.items ≡ Ok workload) × IsValidWorkload workload))) }
     ensures unplayed { IfErr result (λ failure. failure ≢ Failure.Memory → added rounds.old rounds.new ≡ []) }
 {
     let workload = read_workload(alloc, &input)?;
