@@ -48,6 +48,7 @@ pub stood_alone : (style : Style) (layout : Layout) (job : Job) (k n : TlCalled 
 stood_alone style layout job k n one was = record {
   branches = was.branches;
   made = was.made;
+  given_up = was.given_up;
   same_done = was.same_done;
   blocked = λ store stands. was.blocked _ store stands agrees;
   unused = λ reads. refl;

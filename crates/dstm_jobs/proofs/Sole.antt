@@ -41,6 +41,7 @@ pub stood_alone : (style : Style) (layout : Layout) (job : Job) (k n : Called St
 stood_alone style layout job k n one law was = record {
   branches = was.branches;
   made = was.made;
+  given_up = was.given_up;
   same_done = was.same_done;
   blocked = λ store stands.
       only_blocked layout s (start_of n) n.log (state n).begun job store core only
