@@ -1,5 +1,5 @@
 -- An attempt that was alone in a record is left by its commit only, and takes few steps.
-use Rattle.std.proofs.Common.{◌≡◌, ◌≢◌, ◌∙◌, ◌∷◌, ◌++◌, List, [], ℕ, true, refl, sym, subst, ap, inl, arith, length, append_assoc}
+use Rattle.std.proofs.Common.{◌≡◌, ◌≢◌, ◌⊎◌, ◌∙◌, ◌∷◌, ◌++◌, List, [], ℕ, true, refl, sym, subst, ap, inl, inr, arith, length, append_assoc}
 use Rattle.rand_pcg.specs.Lcg.{Lcg}
 use Rattle.dstm_records.proofs.Base.{AreMade, Call, Core, Greedy, Outside, Shape, TriesAgain, events_in, events_of, first, generator_by, state_by}
 use Rattle.dstm_machines.proofs.Own.{own_event}
@@ -11,7 +11,7 @@ use Rattle.dstm_order.specs.Calls.{IsCall, effort_of, state_after}
 use Rattle.dstm_order.specs.Made.{ByCalls}
 use Rattle.dstm_order.specs.Tasks.{Task, Work}
 use Rattle.dstm_order.specs.Tasks.Task.{Doing}
-use Rattle.dstm_progress.specs.Alone.{AreCalls, AreOf, IsAlone, Made, all_events, generator_after}
+use Rattle.dstm_progress.specs.Alone.{AreCalls, AreOf, IsAlone, IsUnmet, Made, all_events, generator_after}
 use Rattle.dstm_progress.proofs.Bound.{alone_is_bounded}
 use Rattle.dstm_progress.proofs.Calls.{alone_is_committed}
 use Rattle.dstm_progress.proofs.Own.{state_both}
@@ -84,6 +84,14 @@ module _ (May : LocalState → Task → Type 0) (s : Shape) (g : Lcg) where
           made.2),
     )
 
+-- ---- a table's only caller
+
+-- it has made all events
+only_made : (s : Shape) (c : ℕ) (es : List Event) → Core s es → s.callers ≡ 1 → c ≡ 0 → AreOf c es
+only_made s c [] core one zero = tt
+only_made s c (e ∷ es) core one zero =
+    (let below = core.1.caller in omega (arith, below, one, zero), only_made s c es core.0 one zero)
+
 -- ---- in a record
 
 module _ {s : Shape} {g : Lcg} {log : List Event} {c : ℕ} (core : Core s log) (by : ByCalls TriesAgain s g log c)
@@ -121,14 +129,28 @@ module _ {s : Shape} {g : Lcg} {log : List Event} {c : ℕ} (core : Core s log) 
         subst (λ (l : LocalState). AreCalls s l (generator_by s first g calls) (stepping on)) (sym begun_by) kept.made;
   }
 
-  pub bounded_alone : s.manager ≢ Greedy → IsBoundedAlone s (all_events on ++ was.begin ∷ was.before) c on
-  bounded_alone waits = record {
+  core_there : Core s (was.begin ∷ was.before)
+  core_there =
+      core_past s (all_events on) (was.begin ∷ was.before)
+      (core_past s was.since (all_events on ++ was.begin ∷ was.before) (subst (Core s) was.log_is core))
+
+  -- it meets no attempt to which it would give way
+  unmet : (s.manager ≢ Greedy) ⊎ (s.callers ≡ 1) → IsUnmet s was.begin.caller was.before
+  unmet (inl waits) = inl waits
+  unmet (inr one) =
+      inr (only_made s was.begin.caller was.before core_there.0 one
+      (let below = core_there.1.caller in omega (arith, below, one)))
+
+  pub bounded_alone : (s.manager ≢ Greedy) ⊎ (s.callers ≡ 1) →
+      IsBoundedAlone s (all_events on ++ was.begin ∷ was.before) c on
+  bounded_alone way = record {
     left = subst (λ (es : List Event). (local s es c).phase ≡ Outside → (local s es c).committed ≡ true) here
         (subst (λ (d : ℕ). (local s (all_events (stepping on) ++ was.begin ∷ was.before) d).phase ≡ Outside →
         (local s (all_events (stepping on) ++ was.begin ∷ was.before) d).committed ≡ true) was.caller
-        (alone_is_committed s (generator_by s first g calls) (stepping on) was.begin was.before is_alone (inl waits)));
+        (alone_is_committed s (generator_by s first g calls) (stepping on) was.begin was.before is_alone (unmet way)));
     steps =
-        let few = alone_is_bounded s (generator_by s first g calls) (stepping on) was.begin was.before is_alone (inl waits) in
+        let few = alone_is_bounded s (generator_by s first g calls) (stepping on) was.begin was.before is_alone
+        (unmet way) in
         let counts = prices_by_count s.manager (stepping on) in
         let same = ap length kept.events in
         omega (arith, few, counts, same);

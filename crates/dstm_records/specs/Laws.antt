@@ -1,5 +1,5 @@
 -- Laws of the records of a run: what the calls of the callers of each round come to.
-use Rattle.std.specs.Prelude.{◌≡◌, ◌≢◌, ℕ, ◌<◌, List, ◌∷◌, ◌++◌, All}
+use Rattle.std.specs.Prelude.{◌≡◌, ◌≢◌, ◌⊎◌, ℕ, ◌<◌, List, ◌∷◌, ◌++◌, All}
 use Rattle.dstm_machines.specs.Traces.{Each, events_of}
 use Rattle.dstm_core.specs.Runs.{local}
 use Rattle.dstm_core.specs.declared.event.Kind.TheVariants.{Kill}
@@ -53,12 +53,13 @@ KillsAsChosen seed (Tl2 r) c = Unit {0}
 abbrev pub EachKillsAsChosen : Type 0
 EachKillsAsChosen = OfEachCaller KillsAsChosen
 
--- AN ATTEMPT THAT IS ALONE, under a manager that waits for enemies of bounded patience, is left by its commit only, and takes
--- few steps
+-- AN ATTEMPT THAT IS ALONE, under a manager that waits for enemies of bounded patience, or of its table's only caller,
+-- is left by its commit only, and takes few steps
 abbrev pub IsBoundedWhenAlone : (seed : ℕ) → Round → ℕ → Type 0
 IsBoundedWhenAlone seed (Dstm r) c =
     (by : made.ByCalls TriesAgain r.terms.shape (started r.terms.shape.manager seed).generator r.log c) (on : List Made)
-    (was : WasAlone r.terms.shape r.log c by.calls on) → r.terms.shape.manager ≢ Greedy →
+    (was : WasAlone r.terms.shape r.log c by.calls on) →
+    (r.terms.shape.manager ≢ Greedy) ⊎ (r.terms.shape.callers ≡ 1) →
     IsBoundedAlone r.terms.shape (all_events on ++ was.begin ∷ was.before) c on
 IsBoundedWhenAlone seed (Tl2 r) c = Unit {0}
 

@@ -20,8 +20,8 @@ pub fn kills_were_chosen()
     ensures { EachKillsAsChosen }
 {}
 
-/// An attempt in which no other caller made a step, under Polite, Karma or Polka, was left by its commit only, and took few
-/// steps.
+/// An attempt in which no other caller made a step, under Polite, Karma or Polka or of a table's only caller, was left
+/// by its commit only, and took few steps.
 pub fn alone_attempts_were_bounded()
     ensures { EachIsBoundedWhenAlone }
 {}
