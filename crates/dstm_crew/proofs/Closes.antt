@@ -1,6 +1,6 @@
 -- What an alone round adds, by what its caller has done.
 use Rattle.std.proofs.Common.{◌≡◌, ℕ, ◌<◌, false, List, [], ◌++◌, length, reverse, refl, ap, sym, subst, ◌∙◌, inl, inr, arith, true≢false}
-use Rattle.std.specs.Prelude.{IfSome, None, Option, Some}
+use Rattle.std.specs.Prelude.{All, IfSome, None, Option, Some, zip}
 use Rattle.std.specs.List.{slice_get}
 use Rattle.std.proofs.lemmas.List.Elements.{recursion_from_All}
 use Rattle.dstm_model.specs.declared.value.Val.{Val}
@@ -19,16 +19,16 @@ use Rattle.dstm_jobs.specs.Tables as known
 use Rattle.dstm_tables.specs.Tells.{ByCalls, IsPast, IsSpent, all_done, begun_of, callers_of, committed_of, done_of, let_go_by, start_of, values_of}
 use Rattle.dstm_tables.proofs.Closing.{done_at_close, let_go_at_close, spent_at_close}
 use Rattle.dstm_tables.proofs.History.{sights_agree}
-use Rattle.dstm_tables.proofs.Staying.{attempts_past}
+use Rattle.dstm_tables.proofs.Staying.{attempts_past, lets_go_past}
 use Rattle.dstm_tables.proofs.Same.{callers_past, first_past, first_seen, locators_past, number_below, only_tells_all, start_past, writes_past}
 use Rattle.dstm_jobs.proofs.Same.{layout_is, layout_past, of_past}
-use Rattle.dstm_records.specs.Records.{IsAlone, IsMade, IsRoundOf, IsRun, KeepsReads, TellOf, seed_for}
+use Rattle.dstm_records.specs.Records.{IsAlone, IsMade, IsRoundOf, IsRun, KeepsFewReads, KeepsReads, TellOf, seed_for}
 use Rattle.dstm_records.specs.Rounds.{is_parallel, most_jobs, workers_left}
 use Rattle.dstm_records.specs.Running.{AddsRound, Begins, count_left, turns_behind}
 use Rattle.dstm_records.specs.Told.{AreTold}
 use Rattle.dstm_records.proofs.Closing.{begun_at_close}
 use Rattle.dstm_records.proofs.Collecting.{Collected}
-use Rattle.dstm_records.proofs.Making.{made_past}
+use Rattle.dstm_records.proofs.Making.{made_past, reads_let_go}
 use Rattle.dstm_records.proofs.Told.{fewer_left, rows_told}
 use Rattle.dstm_crew.specs.Alone.{CanRunAlone, HasRunAlone}
 use Rattle.dstm_crew.specs.Opened.{IsOpened, with_jobs}
@@ -82,9 +82,9 @@ pub can_run : {workload : Workload} {options : Options} {number : ℕ} {before :
     {table : Table} {f : Founder} {k : Caller} → is_parallel number ≡ false → Begins workload number before values →
     turns ≡ turns_behind workload before →
     IsOpened workload options (length (workers_left workload before)) values table f k →
-    CanRunAlone workload number table k before turns
-can_run {workload = workload} {number = number} {before = before} {values = values} {table = table} {k = k} alone
-    begins turned opened =
+    CanRunAlone workload options number table k before turns
+can_run {workload = workload} {options = options} {number = number} {before = before} {values = values} {table = table}
+    {k = k} alone begins turned opened =
     let a = first_of table in
     let b = round_of k in
     let past : IsPast a b = first_past k table opened.home in
@@ -96,6 +96,10 @@ can_run {workload = workload} {number = number} {before = before} {values = valu
       only = callers_past a b past ∙ opened.only;
       law = sym (layout_is k) ∙ layout_past a b past ∙ opened.layout;
       reads = λ third. writes_past a b past ∙ opened.reads third;
+      reads_go = λ releasing.
+          lets_go_past a b past
+          ∙ reads_let_go options workload.version number (length (workers_left workload before)) a releasing
+          opened.engine (opened.made number alone);
       attempts = attempts_past a b past ∙ opened.attempts;
       locators = locators_past a b past opened.locators;
       rest = opened.rest;
@@ -112,7 +116,7 @@ module _ (workload : Workload) (options : Options) (number : ℕ) (before : List
     (table : Table) (f g : Founder) (first n : Caller) (rows : List Row) (turns : Turning)
     (alone : is_parallel number ≡ false) (begins : Begins workload number before values)
     (opened : IsOpened workload options (length (workers_left workload before)) values table f first)
-    (ran : HasRunAlone workload number first n before rows turns)
+    (ran : HasRunAlone workload options number first n before rows turns)
     (kept : KeepsReads options workload.version → let_go n ≡ 0) (takes : TakesBack f g n)
     (run : known.IsRun (seen_by g))
     (come : IfSome (slice_get (workers_left workload before) 0) (λ worker. CameByCalls (seed_for options worker) first)) where
@@ -172,6 +176,12 @@ module _ (workload : Workload) (options : Options) (number : ℕ) (before : List
       (calls_at_close seed (round_of n) (seen_by g) (number_of n) takes.other_past takes.other_kept
       (by_calls seed n (came_on seed first n ran.goes.on came)))
 
+  -- its caller is spent
+  is_spent : IsSpent (round_of n) (number_of n) → IsSpent (seen_by g) 0
+  is_spent spent =
+      subst (IsSpent (seen_by g)) zeroth
+      (spent_at_close (round_of n) (seen_by g) (number_of n) takes.other_past takes.other_kept spent)
+
   is_alone : IsAlone workload options before ran.now (seen_by g)
   is_alone =
       let begun_then : begun_of (seen_by g) 0 ≡ begun n = ap (begun_of (seen_by g)) (sym zeroth)
@@ -187,10 +197,14 @@ module _ (workload : Workload) (options : Options) (number : ℕ) (before : List
         asked = λ worker below has.
             elim (ran.asked worker below has) [
               | inl was ↦ inl was
-              | inr spent ↦ inr (subst (IsSpent (seen_by g)) zeroth
-                  (spent_at_close (round_of n) (seen_by g) (number_of n) takes.other_past takes.other_kept spent))
+              | inr spent ↦ inr (is_spent spent)
             ];
         attempts = let few = ran.attempts in omega (arith, few, begun_then);
+        order = ran.order;
+        ended = elim ran.ended [
+          | inl some ↦ inl some
+          | inr none ↦ inr (elim none [ inl left ↦ inl left | inr spent ↦ inr (is_spent spent) ])
+        ];
       }
 
   round : IsRoundOf workload options number before ran.now values (seen_by g)
@@ -203,7 +217,9 @@ module _ (workload : Workload) (options : Options) (number : ℕ) (before : List
     parallel = λ parallel. absurd (true≢false (sym parallel ∙ alone));
     alone = λ _. is_alone;
     given_up = collected.given_up;
-    released = λ _ parallel. absurd (true≢false (sym parallel ∙ alone));
+    released = λ releasing.
+        subst (λ (ds : List Committed). All (KeepsFewReads workload) (zip ran.now (reverse ds))) (sym committed)
+        (ran.goes.few_reads releasing);
   }
 
   pub adds_alone : {left : List Val} → left ≡ values_of (seen_by g) →

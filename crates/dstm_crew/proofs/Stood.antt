@@ -252,9 +252,10 @@ module _ (workload : Workload) (options : Options) (number : ℕ) (rows : List R
       parallel = λ _. is_round;
       alone = λ odd. absurd (true≢false (sym parallel ∙ odd));
       given_up = told.given_up;
-      released = λ releasing _.
+      released = λ releasing.
           collected.few_reads releasing
-          (reads_let_go options workload.version number (most_jobs workload number rows) closed releasing parallel run.engine made);
+          (reads_let_go options workload.version number (most_jobs workload number rows) closed releasing run.engine
+          made);
     }
 
     pub adds_round : AddsRound workload options number rows values closed collected.now left

@@ -1,12 +1,12 @@
 -- The steps of an alone round.
 use Rattle.std.proofs.Common.{◌≡◌, ◌≢◌, ◌⊎◌, ℕ, suc, ◌+◌, ◌-◌, ◌<◌, ◌≤◌, Bool, true, false, cond, eqb, List, [], ◌∷◌, ◌++◌, length, reverse, Option, None, Some, refl, ap, sym, subst, ◌∙◌, inl, inr, arith, append_assoc, true≢false}
-use Rattle.std.specs.Prelude.{IfSome, All, ◌==◌, ◌&&◌, not, filter, if◌then◌else◌}
-use Rattle.std.specs.List.{range_with_len}
+use Rattle.std.specs.Prelude.{IfSome, All, ◌==◌, ◌&&◌, not, filter, zip, if◌then◌else◌}
+use Rattle.std.specs.List.{AllByRecursion, range_with_len}
 use Rattle.std.proofs.lemmas.Bool.{cases_eq, ne_eqb, cases_lt}
 use Rattle.std.proofs.lemmas.List.Filters.{length-filter_both}
 use Rattle.std.proofs.lemmas.List.FromFn.{length-range_with_len}
 use Rattle.std.proofs.lemmas.List.{append-nil, length-append}
-use Rattle.std.proofs.lemmas.List.Elements.{filter-append, recursion_from_All, All-from_recursion, All-append}
+use Rattle.std.proofs.lemmas.List.Elements.{filter-append, recursion_from_All, All-from_recursion, All-append, All-weaker}
 use mathlib.Core.List.{reverse-cons}
 use Rattle.dstm_model.specs.Job.{apply_job}
 use Rattle.dstm_model.specs.declared.reply.Reply.{Reply}
@@ -22,10 +22,11 @@ use Rattle.dstm_report.specs.Lawful.{first_job, jobs_left, store_after}
 use Rattle.dstm_report.specs.Turns.{Turning, without_first}
 use Rattle.dstm_workload.specs.Workload.{IsJob, IsValidWorkload}
 use Rattle.dstm_report.proofs.Rising.{all_blocked, each-filter, first_holds, rise_all, someone, turn_ends}
-use Rattle.dstm_records.specs.Records.{WasAsked, count_done, is_blocked, is_given_up, most_tries}
+use Rattle.dstm_options.specs.declared.options.Options.{Options}
+use Rattle.dstm_records.specs.Records.{AreRising, IsReleasing, KeepsFewReads, WasAsked, count_done, is_blocked, is_given_up, most_tries}
 use Rattle.dstm_records.specs.Rounds.{attempts_for, has_job, is_parallel, left_by, workers_left}
-use Rattle.std.proofs.lemmas.Option.{none-some}
-use Rattle.dstm_jobs.specs.Answers.{IsAnsweredBy}
+use Rattle.std.proofs.lemmas.Option.{none-some, same_Some}
+use Rattle.dstm_jobs.specs.Answers.{IsAnsweredBy, KeepsFew}
 use Rattle.dstm_tables.specs.Tells.{CannotBegin, IsSpent, all_done, attempts_of, callers_of, committed_of, done_of, entries_of, start_of, used_by}
 use Rattle.dstm_tables.proofs.Entries.{entries_push}
 use Rattle.dstm_tables.proofs.History.{is_history}
@@ -34,19 +35,19 @@ use Rattle.dstm_records.specs.Told.{AreTold, IsGivenUp, IsTold}
 use Rattle.dstm_records.proofs.Collecting.{Collected}
 use Rattle.dstm_records.proofs.Follows.{agrees_next, answers_there}
 use Rattle.dstm_records.proofs.Replies.{not_given_up}
-use Rattle.dstm_records.proofs.Told.{AreTold-push, rows_told}
+use Rattle.dstm_records.proofs.Told.{AreTold-push, rows_told, turn_names}
 use Rattle.dstm_jobs.specs.Tables.{AtRest, Caller, GoesOn, IsSpentFrom, Table}
 use Rattle.dstm_tables.specs.Callers.{done, number_of, round_of}
 use Rattle.dstm_tables.specs.Callers as callers
 use Rattle.dstm_jobs.specs.Jobs.{DidJob}
 use Rattle.dstm_jobs.specs.OnlyCallers.{HasGivenUp, StoodAlone, left_by as values_left}
-use Rattle.dstm_tables.proofs.Staying.{goes_nowhere, goes_on, same_attempts}
+use Rattle.dstm_tables.proofs.Staying.{goes_nowhere, goes_on, same_attempts, same_lets_go}
 use Rattle.dstm_tables.proofs.Same.{callers_same, can_begin, law_same, locators_same, number_below, only_tells_all, start_same, writes_same}
 use Rattle.dstm_jobs.specs.declared.style.Style.{Style}
 use Rattle.dstm_jobs.specs.declared.style.Style.TheVariants.{Branches, Loose, Plain}
 use Rattle.dstm_jobs.specs.Styles.{style_of}
 use Rattle.dstm_jobs.specs.declared.trying.Finished.{Finished}
-use Rattle.dstm_crew.specs.Alone.{CanRunAlone, blocked_so_far, Goes, HasRunAlone, Leads, MayStep, Sweeps, is_done, still_waiting}
+use Rattle.dstm_crew.specs.Alone.{CanRunAlone, blocked_so_far, Goes, HasRunAlone, Leads, MayStep, Passes, Sweeps, is_done, still_waiting}
 use Rattle.dstm_crew.specs.declared.sweeping.Swept.{Swept}
 use Rattle.dstm_crew.specs.declared.sweeping.Swept.TheVariants as swept
 use Rattle.dstm_records.specs.Running.{turns_behind}
@@ -80,6 +81,112 @@ count_one worker row = by ((row.worker == worker) && not (is_given_up row.replie
     by true = omega arith
     by false = omega arith
 
+-- ---- in which order rows stand
+
+rising_push : (rows : List Row) (row : Row) → AreRising rows → AllByRecursion (λ r. r.worker < row.worker) rows →
+    AreRising (rows ++ row ∷ [])
+rising_push [] row rising below = (All-from_recursion (λ (later : Row). row.worker < later.worker) [] tt, tt)
+rising_push (r ∷ rows) row rising below = (
+  All-append (λ (later : Row). r.worker < later.worker) rows (row ∷ []) rising.0
+      (All-from_recursion (λ (later : Row). r.worker < later.worker) (row ∷ []) (below.0, tt)),
+  rising_push rows row rising.1 below.1,
+)
+
+-- no row
+passes_first : Passes [] 0 false
+passes_first = record {
+  order = record {
+    given_up = [];
+    pass = [];
+    are = refl;
+    all_given_up = All-from_recursion (λ (r : Row). is_given_up r.replies ≡ true) [] tt;
+    all_done = All-from_recursion (λ (r : Row). is_given_up r.replies ≡ false) [] tt;
+    rising = tt;
+  };
+  below = All-from_recursion (λ (r : Row). r.worker < 0) [] tt;
+  none_yet = λ none. refl;
+  has_some = λ yes. absurd (true≢false (sym yes));
+}
+
+below_next : (w : ℕ) (rows : List Row) → All (λ row. row.worker < w) rows → All (λ row. row.worker < w + 1) rows
+below_next w rows below =
+    All-weaker (λ (r : Row). r.worker < w) (λ (r : Row). r.worker < w + 1) (λ r less. omega (arith, less)) rows below
+
+-- the next worker's turn
+passes_on : {rows : List Row} {w : ℕ} {some : Bool} → Passes rows w some → Passes rows (w + 1) some
+passes_on {w = w} p = record {
+  order = p.order;
+  below = below_next w p.order.pass p.below;
+  none_yet = p.none_yet;
+  has_some = p.has_some;
+}
+
+-- a job was done
+passes_done : {rows : List Row} {w : ℕ} {some : Bool} (row : Row) → row.worker ≡ w → is_given_up row.replies ≡ false →
+    Passes rows w some → Passes (rows ++ row ∷ []) (w + 1) true
+passes_done {w = w} row worker kept p = record {
+  order = record {
+    given_up = p.order.given_up;
+    pass = p.order.pass ++ row ∷ [];
+    are = ap (λ (rs : List Row). rs ++ row ∷ []) p.order.are ∙ append_assoc p.order.given_up p.order.pass (row ∷ []);
+    all_given_up = p.order.all_given_up;
+    all_done = All-append (λ (r : Row). is_given_up r.replies ≡ false) p.order.pass (row ∷ []) p.order.all_done
+        (All-from_recursion (λ (r : Row). is_given_up r.replies ≡ false) (row ∷ []) (kept, tt));
+    rising = rising_push p.order.pass row p.order.rising
+        (recursion_from_All (λ (r : Row). r.worker < row.worker) p.order.pass
+        (subst (λ (v : ℕ). All (λ (r : Row). r.worker < v) p.order.pass) (sym worker) p.below));
+  };
+  below = All-append (λ (r : Row). r.worker < w + 1) p.order.pass (row ∷ [])
+      (below_next w p.order.pass p.below)
+      (All-from_recursion (λ (r : Row). r.worker < w + 1) (row ∷ []) (omega (arith, worker), tt));
+  none_yet = λ none. absurd (true≢false none);
+  has_some = λ yes. let n = length-append p.order.pass (row ∷ []) in omega (arith, n);
+}
+
+-- where none was done, a job was given up
+passes_given : {rows : List Row} {w : ℕ} (row : Row) → is_given_up row.replies ≡ true → Passes rows w false →
+    Passes (rows ++ row ∷ []) 0 false
+passes_given row given p = record {
+  order = record {
+    given_up = p.order.given_up ++ row ∷ [];
+    pass = [];
+    are = ap (λ (rs : List Row). rs ++ row ∷ [])
+        (p.order.are ∙ ap (λ (rs : List Row). p.order.given_up ++ rs) (p.none_yet refl) ∙ append-nil p.order.given_up)
+        ∙ sym (append-nil (p.order.given_up ++ row ∷ []));
+    all_given_up = All-append (λ (r : Row). is_given_up r.replies ≡ true) p.order.given_up (row ∷ [])
+        p.order.all_given_up (All-from_recursion (λ (r : Row). is_given_up r.replies ≡ true) (row ∷ []) (given, tt));
+    all_done = All-from_recursion (λ (r : Row). is_given_up r.replies ≡ false) [] tt;
+    rising = tt;
+  };
+  below = All-from_recursion (λ (r : Row). r.worker < 0) [] tt;
+  none_yet = λ none. refl;
+  has_some = λ yes. absurd (true≢false (sym yes));
+}
+
+-- ---- what rows keep of their reads
+
+-- one row more
+few_push : (workload : Workload) (before now : List Row) (row : Row) (ds : List Committed) (by : Committed) →
+    AreTold workload before now ds → AllByRecursion (KeepsFewReads workload) (zip now ds) →
+    KeepsFewReads workload (row, by) → AllByRecursion (KeepsFewReads workload) (zip (now ++ row ∷ []) (ds ++ by ∷ []))
+few_push workload before [] row [] by told all few = (few, tt)
+few_push workload before [] row (d ∷ ds) by told all few = absurd told
+few_push workload before (r ∷ now) row [] by told all few = absurd told
+few_push workload before (r ∷ now) row (d ∷ ds) by told all few =
+    (all.0, few_push workload (before ++ r ∷ []) now row ds by told.1 all.1 few)
+
+-- a transaction that read nothing keeps few reads
+few_given : (workload : Workload) (row : Row) (by : Committed) → by.entry.reads ≡ [] → KeepsFewReads workload (row, by)
+few_given workload row by none job named on_list = let n = ap length none in omega (arith, n)
+
+-- ---- jobs that are left
+
+-- where no worker has a first job none is left
+no_job : (workers : ℕ) (left : List Job) → All (λ job. job.worker < workers) left →
+    ((v : ℕ) → v < workers → first_job v left ≡ None) → left ≡ []
+no_job workers [] small none = refl
+no_job workers (job ∷ left) small none = absurd (someone workers (job ∷ left) (omega arith) small none)
+
 -- ---- the store that the caller's transactions have left
 
 -- the only caller has the number 0
@@ -90,14 +197,14 @@ pub told_committed : {k : Caller} → AtRest k → callers_of (round_of k) ≡ 1
 told_committed {k = k} rest only =
     only_tells_all keeps (round_of k) rest.run only ∙ ap (done_of (round_of k)) (sym (number_zero rest only))
 
-module _ {workload : Workload} {number : ℕ} {table : Table} {first : Caller} {before : List Row}
-    {begun : Turning} (can : CanRunAlone workload number table first before begun) where
+module _ {workload : Workload} {options : Options} {number : ℕ} {table : Table} {first : Caller} {before : List Row}
+    {begun : Turning} (can : CanRunAlone workload options number table first before begun) where
   only_of : {k : Caller} → GoesOn first k → callers_of (round_of k) ≡ 1
   only_of {k = k} on = callers_same first k on ∙ can.only
 
   -- the rows are good, and the store after them is what the caller's transactions have left
   pub collected : {k : Caller} {rows now : List Row} {turns : Turning} →
-      Goes workload number first k before rows now turns →
+      Goes workload options number first k before rows now turns →
       Collected workload before now (start_of (round_of k)) (reverse (done k)) []
   collected {k = k} {now = now} goes =
       let only = only_of goes.on in
@@ -111,7 +218,7 @@ module _ {workload : Workload} {number : ℕ} {table : Table} {first : Caller} {
       (recursion_from_All (λ row. row.round ≡ number) now goes.in_round))
 
   stands_now : {k : Caller} {rows now : List Row} {turns : Turning} →
-      Goes workload number first k before rows now turns →
+      Goes workload options number first k before rows now turns →
       StandsFor workload.layout (values_left k) (store_after workload rows)
   stands_now {k = k} {rows = rows} {now = now} {turns = turns} goes =
       subst (λ (rs : List Row). StandsFor workload.layout (values_left k) (store_after workload rs)) (sym goes.rows_are)
@@ -121,25 +228,29 @@ module _ {workload : Workload} {number : ℕ} {table : Table} {first : Caller} {
 
   -- the caller went on and committed nothing
   still : {k n : Caller} {rows now : List Row} {turns : Turning} →
-      Goes workload number first k before rows now turns → GoesOn k n → done n ≡ done k →
-      Goes workload number first n before rows now turns
+      Goes workload options number first k before rows now turns → GoesOn k n → done n ≡ done k →
+      Goes workload options number first n before rows now turns
   still {k = k} {n = n} {now = now} goes on same = record {
     rows_are = goes.rows_are;
     turns_are = goes.turns_are;
     on = goes_on first k n goes.on on;
     told = subst (λ (ds : List Committed). AreTold workload before now (reverse ds)) (sym same) goes.told;
     in_round = goes.in_round;
+    few_reads = λ releasing.
+        subst (λ (ds : List Committed). All (KeepsFewReads workload) (zip now (reverse ds))) (sym same)
+        (goes.few_reads releasing);
   }
 
   -- a transaction has committed, and its row was made
   row_goes : {k n : Caller} {rows now : List Row} {turns behind : Turning} (by : Committed) (row : Row) (job : Job) →
-      Goes workload number first k before rows now turns → GoesOn k n → done n ≡ by ∷ done k →
+      Goes workload options number first k before rows now turns → GoesOn k n → done n ≡ by ∷ done k →
       first_job row.worker turns.left ≡ Some job → row.line ≡ job.line → row.round ≡ number → row.number ≡ by.number →
       (IsAnsweredBy workload.layout job.ops row.replies by.entry ⊎ IsGivenUp workload rows row by) →
+      (IsReleasing options workload.version → KeepsFewReads workload (row, by)) →
       behind ≡ record turns { left = without_first row.worker turns.left } →
-      Goes workload number first n before (rows ++ row ∷ []) (now ++ row ∷ []) behind
+      Goes workload options number first n before (rows ++ row ∷ []) (now ++ row ∷ []) behind
   row_goes {k = k} {n = n} {rows = rows} {now = now} {turns = turns} by row job goes on newest turn line round drew
-      answer turned =
+      answer few turned =
       let left : turns.left ≡ jobs_left workload.jobs rows = ap (λ (t : Turning). t.left) goes.turns_are in
       let turn_there : first_job row.worker (jobs_left workload.jobs rows) ≡ Some job =
       ap (first_job row.worker) (sym left) ∙ turn in
@@ -158,6 +269,13 @@ module _ {workload : Workload} {number : ℕ} {table : Table} {first : Caller} {
             (subst (λ (rs : List Row). IsTold workload rs row by) goes.rows_are told));
         in_round = All-append (λ (r : Row). r.round ≡ number) now (row ∷ []) goes.in_round
             (All-from_recursion (λ (r : Row). r.round ≡ number) (row ∷ []) (round, tt));
+        few_reads = λ releasing.
+            subst (λ (ds : List Committed). All (KeepsFewReads workload) (zip (now ++ row ∷ []) ds))
+            (sym (ap reverse newest ∙ reverse-cons by (done k)))
+            (All-from_recursion (KeepsFewReads workload) (zip (now ++ row ∷ []) (reverse (done k) ++ by ∷ []))
+            (few_push workload before now row (reverse (done k)) by goes.told
+            (recursion_from_All (KeepsFewReads workload) (zip now (reverse (done k))) (goes.few_reads releasing))
+            (few releasing)));
       }
 
   -- each job left is of one of the workers
@@ -174,7 +292,7 @@ module _ {workload : Workload} {number : ℕ} {table : Table} {first : Caller} {
   none_in rows row is = let n = length-append rows (row ∷ []) in let m = ap length is in omega (arith, n, m)
 
   -- no worker's job has been tried yet
-  pub sweep_begins : Sweeps workload number first first before before begun 0 false
+  pub sweep_begins : Sweeps workload options number first first before before begun 0 false
   sweep_begins = record {
     now = [];
     goes = record {
@@ -183,10 +301,14 @@ module _ {workload : Workload} {number : ℕ} {table : Table} {first : Caller} {
       on = goes_nowhere first can.rest;
       told = subst (λ (ds : List Committed). AreTold workload before [] (reverse ds)) (sym can.none_done) tt;
       in_round = All-from_recursion (λ (r : Row). r.round ≡ number) [] tt;
+      few_reads = λ releasing.
+          subst (λ (ds : List Committed). All (KeepsFewReads workload) (zip [] (reverse ds))) (sym can.none_done)
+          (All-from_recursion (KeepsFewReads workload) [] tt);
     };
     few = λ w below. absurd (omega (arith, below));
     others = λ w past. refl;
     has_row = λ yes. absurd (true≢false (sym yes));
+    passes = passes_first;
     none_done = λ none w. refl;
     blocked = λ none w below. absurd (omega (arith, below));
     unused = λ none. can.none_installed;
@@ -221,13 +343,14 @@ module _ {workload : Workload} {number : ℕ} {table : Table} {first : Caller} {
 
   -- after a worker's turn that adds no row
   step_on : {k n : Caller} {rows : List Row} {turns : Turning} {w : ℕ} {some : Bool}
-      (s : Sweeps workload number first k before rows turns w some) → Goes workload number first n before rows s.now turns →
+      (s : Sweeps workload options number first k before rows turns w some) →
+      Goes workload options number first n before rows s.now turns →
       IfSome (first_job w (left_by workload rows)) (λ job. apply_job job.ops (store_after workload rows) ≡ None) →
       WasAsked workload before s.now w ⊎ (has_job (left_by workload rows) w ≡ true → ⊥) →
       callers.begun n ≤ length s.now + blocked_so_far workload before s.now (w + 1) →
       (s.now ≡ [] → used_by (round_of n) (number_of n) ≡ 0) →
       (s.now ≡ [] → callers.begun n + length (still_waiting workload (w + 1) (left_by workload before))
-      ≤ length (workers_left workload before)) → Sweeps workload number first n before rows turns (w + 1) some
+      ≤ length (workers_left workload before)) → Sweeps workload options number first n before rows turns (w + 1) some
   step_on {rows = rows} {w = w} s goes blocked asked attempts unused few_tries = record {
     now = s.now;
     goes = goes;
@@ -238,6 +361,7 @@ module _ {workload : Workload} {number : ℕ} {table : Table} {first : Caller} {
         ];
     others = λ v past. s.others v (omega (arith, past));
     has_row = s.has_row;
+    passes = passes_on s.passes;
     none_done = s.none_done;
     blocked = λ not_some v below.
         elim (cases_lt v w) [
@@ -267,8 +391,8 @@ module _ {workload : Workload} {number : ℕ} {table : Table} {first : Caller} {
 
   -- the worker has no job left
   pub step_none : {k : Caller} {rows : List Row} {turns : Turning} {w : ℕ} {some : Bool} → w < workload.workers →
-      first_job w turns.left ≡ None → Sweeps workload number first k before rows turns w some →
-      Sweeps workload number first k before rows turns (w + 1) some
+      first_job w turns.left ≡ None → Sweeps workload options number first k before rows turns w some →
+      Sweeps workload options number first k before rows turns (w + 1) some
   step_none {k = k} {rows = rows} {turns = turns} {w = w} {some = some} inside none s =
       let left : turns.left ≡ left_by workload rows = ap (λ (t : Turning). t.left) s.goes.turns_are in
       let no_job : first_job w (left_by workload rows) ≡ None = ap (first_job w) (sym left) ∙ none in
@@ -293,8 +417,8 @@ module _ {workload : Workload} {number : ℕ} {table : Table} {first : Caller} {
   pub step_blocked : {style : Style} {k n : Caller} {rows : List Row} {turns : Turning} {w : ℕ} {some : Bool}
       {job : Job} → w < workload.workers → (style ≡ Branches → workload.version ≡ 3) →
       first_job w turns.left ≡ Some job → StoodAlone style workload.layout job k n →
-      Sweeps workload number first k before rows turns w some →
-      Sweeps workload number first n before rows turns (w + 1) some
+      Sweeps workload options number first k before rows turns w some →
+      Sweeps workload options number first n before rows turns (w + 1) some
   step_blocked {k = k} {n = n} {rows = rows} {turns = turns} {w = w} {some = some} {job = job} inside third turn stood
       s =
       let goes = still s.goes stood.made.on stood.same_done in
@@ -333,15 +457,15 @@ module _ {workload : Workload} {number : ℕ} {table : Table} {first : Caller} {
 
   -- the job of the worker was done
   pub step_done : {style : Style} {k n : Caller} {rows : List Row} {turns behind : Turning} {w : ℕ}
-      {some : Bool} {job : Job} {finished : Finished} (row : Row) → w < workload.workers → first_job w turns.left
-      ≡ Some job →
+      {some : Bool} {job : Job} {finished : Finished} (row : Row) → w < workload.workers →
+      (IsReleasing options workload.version → style ≡ Loose) → first_job w turns.left ≡ Some job →
       DidJob style workload.layout job k n finished → row.worker ≡ w → row.line ≡ job.line → row.round ≡ number →
       row.number ≡ finished.number → row.replies ≡ finished.replies →
       behind ≡ record turns { left = without_first row.worker turns.left } →
-      Sweeps workload number first k before rows turns w some →
-      Sweeps workload number first n before (rows ++ row ∷ []) behind (w + 1) true
-  step_done {k = k} {n = n} {rows = rows} {turns = turns} {behind = behind} {w = w} {job = job} row inside turn did
-      worker line round drew replies turned s =
+      Sweeps workload options number first k before rows turns w some →
+      Sweeps workload options number first n before (rows ++ row ∷ []) behind (w + 1) true
+  step_done {k = k} {n = n} {rows = rows} {turns = turns} {behind = behind} {w = w} {job = job} row inside loose turn
+      did worker line round drew replies turned s =
       let answered : IsAnsweredBy workload.layout job.ops row.replies did.by.entry =
       subst (λ (rs : List Reply). IsAnsweredBy workload.layout job.ops rs did.by.entry) (sym replies) did.is.answered in
       let here : first_job row.worker turns.left ≡ Some job = ap (λ v. first_job v turns.left) worker ∙ turn in
@@ -350,10 +474,16 @@ module _ {workload : Workload} {number : ℕ} {table : Table} {first : Caller} {
       let kept : is_given_up row.replies ≡ false = not_given_up job.ops (store_after workload rows) row.replies
       (answers_there workload rows row.replies (values_left k) did.by.entry job (stands_now s.goes)
       (agrees_then did.by s.goes.on did.made.on did.newest) answered) in
+      let few : IsReleasing options workload.version → KeepsFewReads workload (row, did.by) = λ releasing other named.
+      subst (λ (j : Job). KeepsFew j did.by)
+      (same_Some job other (sym (turn_names workload rows row job can.valid there line) ∙ named))
+      (did.few_reads (loose releasing)
+      (same_lets_go first n (goes_on first k n s.goes.on did.made.on) ∙ can.reads_go releasing)) in
       record {
         now = s.now ++ row ∷ [];
         goes = row_goes did.by row job s.goes did.made.on did.newest here line round
-            (drew ∙ did.is.number) (inl answered) turned;
+            (drew ∙ did.is.number) (inl answered) few turned;
+        passes = passes_done row worker kept s.passes;
         few = λ v below.
             elim (cases_lt v w) [
               | inl before_it ↦
@@ -404,14 +534,18 @@ module _ {workload : Workload} {number : ℕ} {table : Table} {first : Caller} {
 
   -- ---- where a round ends
 
-  end_by : {k : Caller} {rows now : List Row} {turns : Turning} (w : ℕ) →
-      Goes workload number first k before rows now turns → ((v : ℕ) → v < w → count_done v now ≤ 1) →
-      ((v : ℕ) → w ≤ v → count_done v now ≡ 0) → 0 < length now →
+  end_by : {k : Caller} {rows now : List Row} {turns : Turning} {some : Bool} (w : ℕ) →
+      Goes workload options number first k before rows now turns → (passes : Passes now w some) →
+      (0 < length passes.order.pass)
+      ⊎ ((left_by workload (before ++ now) ≡ []) ⊎ IsSpent (round_of k) (number_of k)) →
+      ((v : ℕ) → v < w → count_done v now ≤ 1) → ((v : ℕ) → w ≤ v → count_done v now ≡ 0) → 0 < length now →
       ((v : ℕ) → v < workload.workers → has_job (left_by workload before) v ≡ true →
       WasAsked workload before now v ⊎ IsSpent (round_of k) (number_of k)) →
-      callers.begun k ≤ most_tries workload before now → HasRunAlone workload number first k before rows turns
-  end_by {now = now} w goes few others has asked attempts = record {
+      callers.begun k ≤ most_tries workload before now → HasRunAlone workload options number first k before rows turns
+  end_by {now = now} w goes passes ended few others has asked attempts = record {
     now = now;
+    order = passes.order;
+    ended = ended;
     goes = goes;
     some = has;
     asked = asked;
@@ -425,17 +559,19 @@ module _ {workload : Workload} {number : ℕ} {table : Table} {first : Caller} {
 
   -- a pass that has come to its end has asked all
   end_whole : {k : Caller} {rows : List Row} {turns : Turning} {some : Bool} →
-      (s : Sweeps workload number first k before rows turns workload.workers some) → 0 < length s.now →
-      HasRunAlone workload number first k before rows turns
-  end_whole {k = k} {rows = rows} {turns = turns} s has =
-      end_by workload.workers s.goes s.few s.others has (λ v below had.
+      (s : Sweeps workload options number first k before rows turns workload.workers some) →
+      (0 < length s.passes.order.pass)
+      ⊎ ((left_by workload (before ++ s.now) ≡ []) ⊎ IsSpent (round_of k) (number_of k)) → 0 < length s.now →
+      HasRunAlone workload options number first k before rows turns
+  end_whole {k = k} {rows = rows} {turns = turns} s ended has =
+      end_by workload.workers s.goes s.passes ended s.few s.others has (λ v below had.
       elim (s.asked v below had) [ inl was ↦ inl was | inr later ↦ absurd (omega (arith, below, later.0)) ])
       (tries_are_few workload before s.now workload.workers (callers.begun k) (omega arith) s.attempts)
 
   pub end_done : {k : Caller} {rows : List Row} {turns : Turning} →
-      Sweeps workload number first k before rows turns workload.workers true →
-      HasRunAlone workload number first k before rows turns
-  end_done {k = k} {rows = rows} {turns = turns} s = end_whole s (s.has_row refl)
+      Sweeps workload options number first k before rows turns workload.workers true →
+      HasRunAlone workload options number first k before rows turns
+  end_done {k = k} {rows = rows} {turns = turns} s = end_whole s (inl (s.passes.has_some refl)) (s.has_row refl)
 
   -- a caller that has used nothing and has tried few jobs is not spent
   not_spent : {k : Caller} → GoesOn first k → used_by (round_of k) (number_of k) ≡ 0 →
@@ -452,9 +588,9 @@ module _ {workload : Workload} {number : ℕ} {table : Table} {first : Caller} {
 
   -- the caller is spent, which has a row behind
   pub spent_after : {k n : Caller} {rows : List Row} {turns : Turning} {w : ℕ} {some : Bool} → w ≤ workload.workers →
-      IsSpentFrom k n → (s : Sweeps workload number first k before rows turns w some) →
+      IsSpentFrom k n → (s : Sweeps workload options number first k before rows turns w some) →
       (s.now ≡ [] → callers.begun k ≤ length (workers_left workload before)) →
-      HasRunAlone workload number first n before rows turns
+      HasRunAlone workload options number first n before rows turns
   spent_after {k = k} {n = n} {rows = rows} {turns = turns} {w = w} small was s few = by s.now refl
     where
       tries : callers.begun n ≤ most_tries workload before s.now
@@ -462,16 +598,17 @@ module _ {workload : Workload} {number : ℕ} {table : Table} {first : Caller} {
           let few_ = tries_are_few workload before s.now w (callers.begun k) small s.attempts in
           let same = was.begun in omega (arith, few_, same)
 
-      by : (now : List Row) → s.now ≡ now → HasRunAlone workload number first n before rows turns
+      by : (now : List Row) → s.now ≡ now → HasRunAlone workload options number first n before rows turns
       by (row ∷ now) is =
-          end_by w (still s.goes was.on was.same_done) s.few s.others
+          end_by w (still s.goes was.on was.same_done) s.passes (inr (inr was.spent)) s.few s.others
           (let some_ = ap length is in omega (arith, some_)) (λ v below had. inr was.spent) tries
       by [] is = absurd (not_spent s.goes.on (s.unused is) (few is) was.was)
 
   -- the caller is spent, after a try of a worker that has a job left
   pub step_spent : {k n : Caller} {rows : List Row} {turns : Turning} {w : ℕ} {some : Bool} (job : Job) →
       w < workload.workers → first_job w turns.left ≡ Some job → IsSpentFrom k n →
-      Sweeps workload number first k before rows turns w some → HasRunAlone workload number first n before rows turns
+      Sweeps workload options number first k before rows turns w some →
+      HasRunAlone workload options number first n before rows turns
   step_spent {k = k} {n = n} {rows = rows} {turns = turns} {w = w} {some = some} job inside turn was s =
       spent_after (omega (arith, inside)) was s (λ empty. let t = s.few_tries empty in omega (arith, t))
 
@@ -483,8 +620,8 @@ module _ {workload : Workload} {number : ℕ} {table : Table} {first : Caller} {
       HasGivenUp k n drawn → row.worker ≡ job.worker → row.line ≡ job.line →
       row.round ≡ number → row.number ≡ drawn → row.replies ≡ Never ∷ [] →
       behind ≡ record turns { left = without_first row.worker turns.left } →
-      Sweeps workload number first k before rows turns workload.workers false →
-      Sweeps workload number first n before (rows ++ row ∷ []) behind 0 false
+      Sweeps workload options number first k before rows turns workload.workers false →
+      Sweeps workload options number first n before (rows ++ row ∷ []) behind 0 false
   step_given_up {k = k} {n = n} {rows = rows} {turns = turns} {behind = behind} job row turn least gave worker line
       round drew replies turned s =
       let left : turns.left ≡ jobs_left workload.jobs rows = ap (λ (t : Turning). t.left) s.goes.turns_are in
@@ -503,7 +640,8 @@ module _ {workload : Workload} {number : ℕ} {table : Table} {first : Caller} {
       record {
         now = s.now ++ row ∷ [];
         goes = row_goes gave.by row job s.goes gave.made.on gave.newest here line round
-            (drew ∙ gave.drew) (inr given) turned;
+            (drew ∙ gave.drew) (inr given) (λ releasing. few_given workload row gave.by gave.nothing_read) turned;
+        passes = passes_given row (ap is_given_up replies) s.passes;
         few = λ v below. absurd (omega (arith, below));
         others = λ v past.
             let f = s.none_done refl v in let p = count_push v s.now row in let z = count_given v row replies in
@@ -530,20 +668,27 @@ module _ {workload : Workload} {number : ℕ} {table : Table} {first : Caller} {
 
   -- the caller is spent
   pub given_up_spent : {k n : Caller} {rows : List Row} {turns : Turning} → IsSpentFrom k n →
-      Sweeps workload number first k before rows turns workload.workers false →
-      HasRunAlone workload number first n before rows turns
+      Sweeps workload options number first k before rows turns workload.workers false →
+      HasRunAlone workload options number first n before rows turns
   given_up_spent {k = k} {n = n} {rows = rows} {turns = turns} was s =
       spent_after (omega arith) was s (λ empty. let t = s.few_tries empty in omega (arith, t))
 
   -- no job is left
   pub end_empty : {k : Caller} {rows : List Row} {turns : Turning} →
       ((v : ℕ) → v < workload.workers → first_job v turns.left ≡ None) →
-      Sweeps workload number first k before rows turns workload.workers false →
-      HasRunAlone workload number first k before rows turns
+      Sweeps workload options number first k before rows turns workload.workers false →
+      HasRunAlone workload options number first k before rows turns
   end_empty {k = k} {rows = rows} {turns = turns} none s = by s.now refl
     where
-      by : (now : List Row) → s.now ≡ now → HasRunAlone workload number first k before rows turns
-      by (row ∷ now) is = end_whole s (let some_ = ap length is in omega (arith, some_))
+      none_left : left_by workload (before ++ s.now) ≡ []
+      none_left =
+          no_job workload.workers (left_by workload (before ++ s.now)) (small_left (before ++ s.now))
+          (λ v below. ap (first_job v)
+          (sym (ap (λ (t : Turning). t.left) s.goes.turns_are
+          ∙ ap (λ (rs : List Row). jobs_left workload.jobs rs) s.goes.rows_are)) ∙ none v below)
+
+      by : (now : List Row) → s.now ≡ now → HasRunAlone workload options number first k before rows turns
+      by (row ∷ now) is = end_whole s (inr (inl none_left)) (let some_ = ap length is in omega (arith, some_))
       by [] is =
           let rows_is : rows ≡ before = s.goes.rows_are ∙ ap (λ (rs : List Row). before ++ rs) is ∙ append-nil before in
           let left : turns.left ≡ left_by workload before =
@@ -598,17 +743,18 @@ third_of version release is = by (cases_eq version 3)
         others false e = cc
 
 -- a pass that has ended, but not for want of attempts
-pub swept_leads : {workload : Workload} {number : ℕ} {first n : Caller} {before rows : List Row} {turns : Turning}
-    {next : ℕ} (ended : Swept) → (ended ≡ swept.Spent → ⊥) →
-    Sweeps workload number first n before rows turns next (is_done ended) →
-    Leads workload number first n before rows turns next false ended
+pub swept_leads : {workload : Workload} {options : Options} {number : ℕ} {first n : Caller} {before rows : List Row}
+    {turns : Turning} {next : ℕ} (ended : Swept) → (ended ≡ swept.Spent → ⊥) →
+    Sweeps workload options number first n before rows turns next (is_done ended) →
+    Leads workload options number first n before rows turns next false ended
 swept_leads swept.Done other sweeps = sweeps
 swept_leads swept.Blocked other sweeps = sweeps
 swept_leads swept.Spent other sweeps = absurd (other refl)
 
 -- the caller of an alone round that begins may step
-pub may_begin : {workload : Workload} {number : ℕ} {table : Table} {first : Caller} {before : List Row}
-    {begun : Turning} → CanRunAlone workload number table first before begun → MayStep workload table first before begun
+pub may_begin : {workload : Workload} {options : Options} {number : ℕ} {table : Table} {first : Caller}
+    {before : List Row} {begun : Turning} → CanRunAlone workload options number table first before begun →
+    MayStep workload table first before begun
 may_begin can = record {
   valid = can.valid;
   home = can.home;

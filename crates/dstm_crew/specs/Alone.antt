@@ -1,10 +1,10 @@
 -- Private: an alone round, step by step: one caller runs the first job left of each worker, the workers in rising order.
-use Rattle.std.specs.Prelude.{◌≡◌, ◌⊎◌, ℕ, ◌+◌, ◌-◌, ◌<◌, ◌≤◌, Bool, true, false, List, [], ◌∷◌, ◌++◌, length, filter, reverse, None, IfSome, All}
+use Rattle.std.specs.Prelude.{◌≡◌, ◌⊎◌, ℕ, ◌+◌, ◌-◌, ◌<◌, ◌≤◌, Bool, true, false, List, [], ◌∷◌, ◌++◌, length, filter, reverse, zip, None, IfSome, All}
 use Rattle.std.specs.List.{range_with_len}
 use Rattle.dstm_model.specs.Job.{apply_job}
 use Rattle.dstm_jobs.specs.Tables.{AtRest, Caller, GoesOn, Table}
 use Rattle.dstm_tables.specs.Callers.{begun, done, home_of, law_of, number_of, round_of}
-use Rattle.dstm_tables.specs.Tells.{HasLocators, IsSpent, attempts_of, callers_of, start_of, used_by, writes_all}
+use Rattle.dstm_tables.specs.Tells.{HasLocators, IsSpent, attempts_of, callers_of, lets_go, start_of, used_by, writes_all}
 use Rattle.dstm_store.specs.Whole.{StandsFor}
 use Rattle.dstm_workload.specs.declared.workload.Job.{Job}
 use Rattle.dstm_workload.specs.declared.workload.Workload.{Workload}
@@ -12,7 +12,8 @@ use Rattle.dstm_workload.specs.Workload.{IsValidWorkload}
 use Rattle.dstm_report.specs.declared.report.Row.{Row}
 use Rattle.dstm_report.specs.Lawful.{first_job, store_after}
 use Rattle.dstm_report.specs.Turns.{Turning}
-use Rattle.dstm_records.specs.Records.{WasAsked, count_done, is_blocked, most_tries}
+use Rattle.dstm_options.specs.declared.options.Options.{Options}
+use Rattle.dstm_records.specs.Records.{IsInOrder, IsReleasing, KeepsFewReads, WasAsked, count_done, is_blocked, most_tries}
 use Rattle.dstm_records.specs.Rounds.{attempts_for, has_job, is_parallel, left_by, workers_left}
 use Rattle.dstm_records.specs.Running.{turns_behind}
 use Rattle.dstm_records.specs.Told.{AreTold}
@@ -21,8 +22,8 @@ use Rattle.dstm_crew.specs.declared.sweeping.Swept.TheVariants as swept
 
 -- A caller that can run alone behind these rows: the round is an alone one, the caller is the only one of its table and has done nothing yet, and its table
 -- is as large as the workers that have jobs left want it
-pub record CanRunAlone (workload : Workload) (number : ℕ) (table : Table) (k : Caller) (before : List Row)
-    (turns : Turning) : Type 0 where
+pub record CanRunAlone (workload : Workload) (options : Options) (number : ℕ) (table : Table) (k : Caller)
+    (before : List Row) (turns : Turning) : Type 0 where
   pub valid : IsValidWorkload workload
   pub alone : is_parallel number ≡ false
   pub earlier : All (λ row. row.round < number) before
@@ -30,6 +31,7 @@ pub record CanRunAlone (workload : Workload) (number : ℕ) (table : Table) (k :
   pub only : callers_of (round_of k) ≡ 1
   pub law : (law_of k).layout ≡ workload.layout
   pub reads : workload.version ≡ 3 → writes_all (round_of k) ≡ false
+  pub reads_go : IsReleasing options workload.version → lets_go (round_of k) ≡ true
   pub attempts : attempts_of (round_of k) ≡ attempts_for (length (workers_left workload before))
   pub locators : HasLocators (round_of k)
   pub rest : AtRest k
@@ -40,27 +42,41 @@ pub record CanRunAlone (workload : Workload) (number : ℕ) (table : Table) (k :
   pub turns_are : turns ≡ turns_behind workload before
   pub some_left : 0 < length (left_by workload before)
 
--- What there is of an alone round: its rows so far tell of what the caller has committed, one for one.
-pub record Goes (workload : Workload) (number : ℕ) (first k : Caller) (before rows now : List Row)
+-- What there is of an alone round: its rows so far tell of what the caller has committed, one for one. With early
+-- release, walks along the list keep few reads.
+pub record Goes (workload : Workload) (options : Options) (number : ℕ) (first k : Caller) (before rows now : List Row)
     (turns : Turning) : Type 0 where
   pub rows_are : rows ≡ before ++ now
   pub turns_are : turns ≡ turns_behind workload rows
   pub on : GoesOn first k
   pub told : AreTold workload before now (reverse (done k))
   pub in_round : All (λ row. row.round ≡ number) now
+  pub few_reads : IsReleasing options workload.version → All (KeepsFewReads workload) (zip now (reverse (done k)))
+
+-- The rows so far are in order, and the workers whose jobs were done stand before this one. `some` tells whether there
+-- are any.
+pub record Passes (rows : List Row) (worker : ℕ) (some : Bool) : Type 0 where
+  pub order : IsInOrder rows
+  pub below : All (λ row. row.worker < worker) order.pass
+  pub none_yet : some ≡ false → order.pass ≡ []
+  pub has_some : some ≡ true → 0 < length order.pass
 
 -- An alone round has ended: it has a row, and at most one of each worker whose job was not given up. No worker was passed over,
--- unless the caller is spent, and no attempt was wasted.
-pub record HasRunAlone (workload : Workload) (number : ℕ) (first k : Caller) (before rows : List Row)
-    (turns : Turning) : Type 0 where
+-- unless the caller is spent, and no attempt was wasted. Its rows are in order, and it went on until a job was done,
+-- unless no job is left or the caller is spent.
+pub record HasRunAlone (workload : Workload) (options : Options) (number : ℕ) (first k : Caller)
+    (before rows : List Row) (turns : Turning) : Type 0 where
   pub now : List Row
-  pub goes : Goes workload number first k before rows now turns
+  pub goes : Goes workload options number first k before rows now turns
   pub some : 0 < length now
   pub few : (worker : ℕ) → count_done worker now ≤ 1
   pub asked :
       (worker : ℕ) → worker < workload.workers → has_job (left_by workload before) worker ≡ true
       → WasAsked workload before now worker ⊎ IsSpent (round_of k) (number_of k)
   pub attempts : begun k ≤ most_tries workload before now
+  pub order : IsInOrder now
+  pub ended : (0 < length order.pass)
+      ⊎ ((left_by workload (before ++ now) ≡ []) ⊎ IsSpent (round_of k) (number_of k))
 
 -- the workers from this one on that have jobs left
 abbrev pub still_waiting : Workload → (worker : ℕ) → List Job → List ℕ
@@ -77,14 +93,15 @@ blocked_so_far workload before (row ∷ rows) worker =
     blocked_below workload before workload.workers + blocked_so_far workload (before ++ row ∷ []) rows worker
 
 -- Where a pass over the workers stands before a worker. `some` tells whether it has done a job.
-pub record Sweeps (workload : Workload) (number : ℕ) (first k : Caller) (before rows : List Row)
+pub record Sweeps (workload : Workload) (options : Options) (number : ℕ) (first k : Caller) (before rows : List Row)
     (turns : Turning) (worker : ℕ) (some : Bool) : Type 0 where
   pub now : List Row
-  pub goes : Goes workload number first k before rows now turns
+  pub goes : Goes workload options number first k before rows now turns
   -- each worker before has done a job at most once, and the others none
   pub few : (w : ℕ) → w < worker → count_done w now ≤ 1
   pub others : (w : ℕ) → worker ≤ w → count_done w now ≡ 0
   pub has_row : some ≡ true → 0 < length now
+  pub passes : Passes now worker some
   -- while no job is done, none was done in the round, and the first job left of each worker before is blocked
   pub none_done : some ≡ false → (w : ℕ) → count_done w now ≡ 0
   pub blocked : some ≡ false → (w : ℕ) → w < worker →
@@ -117,19 +134,20 @@ is_done swept.Done = true
 is_done ended = false
 
 -- where a pass stands after a step, by how this ended
-abbrev pub Leads : Workload → ℕ → (first n : Caller) → (before rows : List Row) → Turning → (next : ℕ) → Bool →
-    Swept → Type 0
-Leads workload number first n before rows turns next some swept.Done =
-    Sweeps workload number first n before rows turns next true
-Leads workload number first n before rows turns next some swept.Blocked =
-    Sweeps workload number first n before rows turns next some
-Leads workload number first n before rows turns next some swept.Spent =
-    HasRunAlone workload number first n before rows turns
+abbrev pub Leads : Workload → Options → ℕ → (first n : Caller) → (before rows : List Row) → Turning → (next : ℕ) →
+    Bool → Swept → Type 0
+Leads workload options number first n before rows turns next some swept.Done =
+    Sweeps workload options number first n before rows turns next true
+Leads workload options number first n before rows turns next some swept.Blocked =
+    Sweeps workload options number first n before rows turns next some
+Leads workload options number first n before rows turns next some swept.Spent =
+    HasRunAlone workload options number first n before rows turns
 
 -- a step of a pass, which was before a worker and is before another one then
-abbrev pub HasStepped : Workload → ℕ → Table → (k n : Caller) → (rows rows_then : List Row) →
+abbrev pub HasStepped : Workload → Options → ℕ → Table → (k n : Caller) → (rows rows_then : List Row) →
     (turns turns_then : Turning) → (worker next : ℕ) → Swept → Type 0
-HasStepped workload number table k n rows rows_then turns turns_then worker next ended =
+HasStepped workload options number table k n rows rows_then turns turns_then worker next ended =
     (first : Caller) (before : List Row) (begun : Turning) (some : Bool) →
-    CanRunAlone workload number table first before begun → Sweeps workload number first k before rows turns worker some →
-    Leads workload number first n before rows_then turns_then next some ended
+    CanRunAlone workload options number table first before begun →
+    Sweeps workload options number first k before rows turns worker some →
+    Leads workload options number first n before rows_then turns_then next some ended

@@ -34,9 +34,11 @@ pub fn run_alone<G>(
     turns: &mut Turns<'_>,
     rows: &mut Vec<Row>,
 )
-    requires can { CanRunAlone play.now.workload.now number table.now caller.old rows.old.items turns.old }
+    requires can { CanRunAlone play.now.workload.now play.now.options.now number table.now caller.old rows.old.items
+        turns.old }
     requires room { vec_len rows.old + length turns.old.left ≤ vec_capacity rows.old }
-    ensures ran { HasRunAlone play.now.workload.now number caller.old caller.new rows.old.items rows.new.items turns.new }
+    ensures ran { HasRunAlone play.now.workload.now play.now.options.now number caller.old caller.new rows.old.items
+        rows.new.items turns.new }
     ensures keeps { KeepsReads play.now.options.now play.now.workload.now.version →
         let_go caller.new ≡ let_go caller.old }
 {
@@ -87,9 +89,11 @@ fn sweep<G>(
     ensures room { vec_len rows.new + length turns.new.left ≤ vec_capacity rows.new }
     ensures fewer { length turns.new.left ≤ length turns.old.left }
     ensures swept { (first : Called) (before : List Row) (begun : Turning) →
-        CanRunAlone play.now.workload.now number table.now first before begun →
-        Sweeps play.now.workload.now number first caller.old before rows.old.items turns.old 0 false →
-        Leads play.now.workload.now number first caller.new before rows.new.items turns.new play.now.workload.now.workers false result }
+        CanRunAlone play.now.workload.now play.now.options.now number table.now first before begun →
+        Sweeps play.now.workload.now play.now.options.now number first caller.old before rows.old.items turns.old 0
+        false →
+        Leads play.now.workload.now play.now.options.now number first caller.new before rows.new.items turns.new
+        play.now.workload.now.workers false result }
     ensures keeps { KeepsReads play.now.options.now play.now.workload.now.version →
         let_go caller.new ≡ let_go caller.old }
 {
@@ -120,8 +124,8 @@ fn try_first<G>(
     ensures may { MayStep play.now.workload.now table.now caller.new rows.new.items turns.new }
     ensures room { vec_len rows.new + length turns.new.left ≤ vec_capacity rows.new }
     ensures fewer { length turns.new.left ≤ length turns.old.left }
-    ensures stepped { HasStepped play.now.workload.now number table.now caller.old caller.new rows.old.items rows.new.items
-        turns.old turns.new worker (worker + 1) result }
+    ensures stepped { HasStepped play.now.workload.now play.now.options.now number table.now caller.old caller.new
+        rows.old.items rows.new.items turns.old turns.new worker (worker + 1) result }
     ensures keeps { KeepsReads play.now.options.now play.now.workload.now.version →
         let_go caller.new ≡ let_go caller.old }
 {

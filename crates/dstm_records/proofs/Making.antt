@@ -1,5 +1,5 @@
 -- Tables that are as the options and the jobs want them.
-use Rattle.std.proofs.Common.{◌≡◌, ◌∙◌, ℕ, true, sym, ap, subst, not}
+use Rattle.std.proofs.Common.{◌≡◌, ◌∙◌, ◌&&◌, ◌==◌, ℕ, Bool, true, false, refl, sym, ap, subst, not}
 use Rattle.dstm_records.proofs.Base.{Dstm, IsDstmMade, IsMade, IsOf, IsPast, IsReleasing, Options, Round, Shape, Tl2, attempts_of, is_parallel, lets_go}
 use Rattle.dstm_words.specs.declared.terms.Terms as core_terms
 use Rattle.dstm_tl2.specs.declared.terms.Terms as tl2_terms
@@ -23,8 +23,12 @@ module _ (options : Options) (version number jobs : ℕ) where
   made_past (Tl2 a) (Dstm b) past made = absurd past
 
   -- where reads are given up early they are let go
-  pub reads_let_go : (r : Round) → IsReleasing options version → is_parallel number ≡ true → IsOf options.engine r →
+  pub reads_let_go : (r : Round) → IsReleasing options version → IsOf options.engine r →
       IsMade options version number jobs r → lets_go r ≡ true
-  reads_let_go (Dstm r) releasing parallel is made = ap not (made.all_write parallel ∙ releasing.reads)
-  reads_let_go (Tl2 r) releasing parallel is made =
+  reads_let_go (Dstm r) releasing is made = ap not (by (is_parallel number) refl)
+    where
+      by : (b : Bool) → is_parallel number ≡ b → r.terms.shape.all_write ≡ false
+      by true parallel = made.all_write parallel ∙ releasing.reads
+      by false alone = made.alone_writes alone ∙ ap (λ (b : Bool). b && not (version == 3)) releasing.reads
+  reads_let_go (Tl2 r) releasing is made =
       absurd (subst (λ (e : Engine). IsOf e (Tl2 r)) releasing.engine is)

@@ -191,6 +191,20 @@ count_blocked workload before (row ∷ rows) =
 abbrev pub most_tries : Workload → (before rows : List Row) → ℕ
 most_tries workload before rows = length rows + count_blocked workload before rows
 
+-- rows of workers that rise
+abbrev pub AreRising : List Row → Type 0
+AreRising [] = Unit {0}
+AreRising (row ∷ rows) = All (λ later. row.worker < later.worker) rows × AreRising rows
+
+-- the rows of an alone round: jobs that were given up, and behind them those that were done, in a pass over the workers
+pub record IsInOrder (rows : List Row) : Type 0 where
+  pub given_up : List Row
+  pub pass : List Row
+  pub are : rows ≡ given_up ++ pass
+  pub all_given_up : All (λ row. is_given_up row.replies ≡ true) given_up
+  pub all_done : All (λ row. is_given_up row.replies ≡ false) pass
+  pub rising : AreRising pass
+
 -- an alone round: its one caller runs at most one job of each worker, and some job
 pub record IsAlone (workload : Workload) (options : Options) (before rows : List Row) (round : Round) : Type 0 where
   pub one_caller : callers_of round ≡ 1
@@ -206,6 +220,10 @@ pub record IsAlone (workload : Workload) (options : Options) (before rows : List
       → WasAsked workload before rows worker ⊎ IsSpent round 0
   -- no attempt was wasted
   pub attempts : begun_of round 0 ≤ most_tries workload before rows
+  -- behind a job that was done none is given up, and no worker is asked again
+  pub order : IsInOrder rows
+  -- it went on until a job was done, unless no job is left or the caller is spent
+  pub ended : (0 < length order.pass) ⊎ ((left_by workload (before ++ rows) ≡ []) ⊎ IsSpent round 0)
 
 -- ---- jobs that are given up
 
@@ -248,9 +266,7 @@ pub record IsRoundOf (workload : Workload) (options : Options) (number : ℕ) (b
   -- jobs were given up in alone rounds only, those of the least workers
   pub given_up : GiveUpRightly workload before rows
   -- with early release, walks along the list keep few reads
-  pub released :
-      IsReleasing options workload.version → is_parallel number ≡ true
-      → All (KeepsFewReads workload) (zip rows (committed_of round))
+  pub released : IsReleasing options workload.version → All (KeepsFewReads workload) (zip rows (committed_of round))
 
 -- the records, from the one of this round on, stand for the rows of their rounds
 abbrev pub AreRoundsOf : Workload → Options → List Row → ℕ → List Row → List Val → List Round → Type 0

@@ -52,6 +52,7 @@ loop-turns-smaller g c =
 pub loop-turns-preserved : goal.loop-turns-preserved
 loop-turns-preserved g c =
     let workload = c.args.play.now.workload.now in
+    let options = c.args.play.now.options.now in
     let job = c.in-Some.job.now in
     let rows = c.sweep.new.rows.items in
     let turns = c.sweep.new.turns in
@@ -74,15 +75,15 @@ loop-turns-preserved g c =
     c.in-Blocked.ensures.may.turns_are turn refl c.push_row.ensures.turns) in
     let swept = c.in-Blocked.ensures.swept c.args.caller.now c.args.rows.now.items c.args.turns.now c.requires.can
     c.loop-turns.invariant.2 in
-    let goes : Sweeps workload c.args.number c.args.caller.now c.give_up.new.caller c.args.rows.now.items (rows ++ row ∷ [])
-    c.push_row.new.turns 0 false = step_given_up
+    let goes : Sweeps workload options c.args.number c.args.caller.now c.give_up.new.caller c.args.rows.now.items
+    (rows ++ row ∷ []) c.push_row.new.turns 0 false = step_given_up
     c.requires.can job row turn c.in-Some.ensures.least gave refl refl
     refl refl never c.push_row.ensures.turns swept in (
       subst (λ (rs : List Row). MayStep workload c.args.table.now c.give_up.new.caller rs c.push_row.new.turns)
           (sym c.push_row.ensures.rows) may,
       omega (arith, fewer, c.push_row.ensures.len, c.in-Blocked.ensures.room, c.push_row.ensures.capacity),
-      subst (λ (rs : List Row). Sweeps workload c.args.number c.args.caller.now c.give_up.new.caller c.args.rows.now.items rs
-          c.push_row.new.turns 0 false) (sym c.push_row.ensures.rows) goes,
+      subst (λ (rs : List Row). Sweeps workload options c.args.number c.args.caller.now c.give_up.new.caller
+          c.args.rows.now.items rs c.push_row.new.turns 0 false) (sym c.push_row.ensures.rows) goes,
       λ none. c.give_up.ensures.keeps ∙ (c.sweep.ensures.keeps none ∙ c.loop-turns.invariant.3 none),
     )
 

@@ -8,7 +8,8 @@ abbrev pub invariant-loop-turns : goal.invariant-loop-turns
 invariant-loop-turns g l =
     MayStep l.play.workload.now l.table l.caller l.rows.items l.turns
     × (vec_len l.rows + length l.turns.left ≤ vec_capacity l.rows)
-    × Sweeps l.play.workload.now l.number l.fn.caller l.caller l.fn.rows.items l.rows.items l.turns 0 Bool.false
+    × Sweeps l.play.workload.now l.play.options.now l.number l.fn.caller l.caller l.fn.rows.items l.rows.items l.turns 0
+    Bool.false
     × (KeepsReads l.play.options.now l.play.workload.now.version → let_go l.caller ≡ let_go l.fn.caller)
 
 abbrev pub decreases-loop-turns : goal.decreases-loop-turns

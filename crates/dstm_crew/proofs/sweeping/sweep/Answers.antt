@@ -18,14 +18,15 @@ loop-worker-preserved g c = (
   (let less = c.try_first.ensures.fewer in let before_ = c.loop-worker.invariant.2 in omega (arith, less, before_)),
   λ first before begun can sweeps.
       let workload = c.args.play.now.workload.now in
+      let options = c.args.play.now.options.now in
       let was = c.loop-worker.invariant.3 first before begun can sweeps in
       elim c.match-try_first.branch [
         | in-Done w ↦
-            subst (λ (ended : Swept). Sweeps workload c.args.number first c.try_first.new.caller before
+            subst (λ (ended : Swept). Sweeps workload options c.args.number first c.try_first.new.caller before
             c.try_first.new.rows.items c.try_first.new.turns (c.loop-worker.worker + 1) (is_done ended)) (sym w.swept-is)
             (w.in-Done.ensures.stepped first before begun (is_done c.loop-worker.swept) can was)
         | in-Blocked w ↦
-            subst (λ (ended : Swept). Sweeps workload c.args.number first c.try_first.new.caller before
+            subst (λ (ended : Swept). Sweeps workload options c.args.number first c.try_first.new.caller before
             c.try_first.new.rows.items c.try_first.new.turns (c.loop-worker.worker + 1) (is_done ended)) (sym w.swept-is)
             (w.in-Blocked.ensures.stepped first before begun (is_done c.loop-worker.swept) can was)
       ],
@@ -42,7 +43,8 @@ loop-worker-preserved g c = (
 pub returns-clause-swept : goal.returns-clause-swept
 returns-clause-swept g c first before begun can sweeps =
     let workload = c.args.play.now.workload.now in
+    let options = c.args.play.now.options.now in
     let all : c.loop-worker.worker ≡ workload.workers = search rules in
     swept_leads c.loop-worker.swept c.loop-worker.invariant.4
-    (subst (λ n. Sweeps workload c.args.number first c.loop-worker.caller before c.loop-worker.rows.items
+    (subst (λ n. Sweeps workload options c.args.number first c.loop-worker.caller before c.loop-worker.rows.items
     c.loop-worker.turns n (is_done c.loop-worker.swept)) all (c.loop-worker.invariant.3 first before begun can sweeps))

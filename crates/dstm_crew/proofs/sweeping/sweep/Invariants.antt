@@ -14,8 +14,10 @@ invariant-loop-worker g l =
     × (vec_len l.rows + length l.turns.left ≤ vec_capacity l.rows)
     × (length l.turns.left ≤ length l.fn.turns.left)
     × ((first : Caller) (before : List Row) (begun : Turning) →
-    CanRunAlone l.play.workload.now l.number l.table first before begun →
-    Sweeps l.play.workload.now l.number first l.fn.caller before l.fn.rows.items l.fn.turns 0 Bool.false →
-    Sweeps l.play.workload.now l.number first l.caller before l.rows.items l.turns l.worker (is_done l.swept))
+    CanRunAlone l.play.workload.now l.play.options.now l.number l.table first before begun →
+    Sweeps l.play.workload.now l.play.options.now l.number first l.fn.caller before l.fn.rows.items l.fn.turns 0
+    Bool.false →
+    Sweeps l.play.workload.now l.play.options.now l.number first l.caller before l.rows.items l.turns l.worker
+    (is_done l.swept))
     × (l.swept ≡ swept.Spent → ⊥)
     × (KeepsReads l.play.options.now l.play.workload.now.version → let_go l.caller ≡ let_go l.fn.caller)

@@ -5,7 +5,7 @@ use Rattle.dstm_report.specs.Turns.{Turning}
 use Rattle.dstm_report.proofs.Rising.{first_own, length-without_first}
 use Rattle.dstm_jobs.specs.Styles.{CanTry}
 use Rattle.dstm_crew.specs.Releases.{releases}
-use Rattle.dstm_crew.proofs.Worked.{can_try}
+use Rattle.dstm_crew.proofs.Worked.{can_try, loose_style}
 use Rattle.dstm_crew.specs.Alone.{MayStep, Sweeps}
 use Rattle.dstm_crew.proofs.Sweeps.{job_is, may_on, step_blocked, step_done, step_none, step_spent, third_of, turns_after}
 use Rattle.dstm_crew.proofs.sweeping.try_first.Given.{Over}
@@ -81,15 +81,16 @@ returns-in-Done-clause-fewer g c =
 pub returns-in-Done-clause-stepped : goal.returns-in-Done-clause-stepped
 returns-in-Done-clause-stepped g c first before begun some can sweeps =
     let workload = c.args.play.now.workload.now in
+    let options = c.args.play.now.options.now in
     let job = c.in-Some.job.now in
     let rows = c.args.rows.now.items in
     let left = c.args.turns.now.left in
     let own : first_job c.args.worker left ≡ Some job = search rules in
     let row = row g (goal.at.returns-in-Done-clause-stepped g c).In-Done in
-    subst (λ (rs : List Row). Sweeps workload c.args.number first c.try_alone.new.caller before rs c.push_row.new.turns
-    (c.args.worker + 1) true) (sym c.push_row.ensures.rows)
-    (step_done can row c.requires.worker own c.in-Done.ensures.tried
-    (first_own c.args.worker left job own) refl refl refl refl c.push_row.ensures.turns sweeps)
+    subst (λ (rs : List Row). Sweeps workload options c.args.number first c.try_alone.new.caller before rs
+    c.push_row.new.turns (c.args.worker + 1) true) (sym c.push_row.ensures.rows)
+    (step_done can row c.requires.worker (λ releasing. c.style_for-style.ensures ∙ loose_style releasing) own
+    c.in-Done.ensures.tried (first_own c.args.worker left job own) refl refl refl refl c.push_row.ensures.turns sweeps)
 
 pub returns-in-Blocked-clause-stepped : goal.returns-in-Blocked-clause-stepped
 returns-in-Blocked-clause-stepped g c first before begun some can sweeps =
