@@ -15,7 +15,7 @@ use Rattle.dstm_jobs.specs.declared.style.Style.TheVariants.{Branches, Loose}
 use Rattle.dstm_jobs.specs.Tables.{Caller, Did}
 use Rattle.dstm_jobs.specs.declared.trying.Finished.{Finished}
 use Rattle.dstm_tables.specs.Callers.{done, law_of, number_of, round_of}
-use Rattle.dstm_jobs.specs.Jobs.{DidJob}
+use Rattle.dstm_jobs.specs.Jobs.{DidJob, WasSightedByOpens}
 use Rattle.dstm_tables.specs.Tells.{lets_go}
 use Rattle.dstm_jobs.proofs.Same.{objects_of_law}
 use Rattle.dstm_jobs.proofs.Answered.{IsRightFor, answered_branch, answered_plain}
@@ -28,8 +28,8 @@ FewReads style job k n =
 module _ (layout : Layout) (job : Job) (k n : Caller) (finished : Finished) (law : (law_of k).layout ≡ layout) where
   did_job : (style : Style) (is_right : List Val → List Val → Type 0) → (d : Did is_right k n finished.number) →
       (IsRightFor is_right layout d.entry → IsAnsweredBy layout job.ops finished.replies d.entry) →
-      FewReads style job k n → DidJob style layout job k n finished
-  did_job style is_right d answered few =
+      FewReads style job k n → (style ≡ Branches → WasSightedByOpens n) → DidJob style layout job k n finished
+  did_job style is_right d answered few sighted =
       let by : Committed = record { caller = number_of k; number = finished.number; entry = d.entry } in record {
         made = d.made;
         committed = d.committed;
@@ -41,20 +41,23 @@ module _ (layout : Layout) (job : Job) (k n : Caller) (finished : Finished) (law
               (subst (λ (l : Layout). IsLawful l map) (sym law) lawful));
         };
         few_reads = λ loose lets. few loose lets by d.newest;
+        sighted = sighted;
       }
 
   -- by its operations in order
   pub did_plain : (style : Style) (body : Body) → body.task.layout ≡ layout → body.task.ops ≡ job.ops →
       finished.replies ≡ body.replies → All IsPlain job.ops →
       Did (λ before after. DoesAll body.task before after body.replies) k n finished.number → FewReads style job k n →
-      DidJob style layout job k n finished
-  did_plain style body same ops replies plain d few =
+      (style ≡ Branches → WasSightedByOpens n) → DidJob style layout job k n finished
+  did_plain style body same ops replies plain d few sighted =
       did_job style _ d (λ right.
       rw replies (answered_plain layout job.ops body.replies d.entry plain (λ map lawful agrees.
-      rw (← same, ← ops) (right map lawful agrees)))) few
+      rw (← same, ← ops) (right map lawful agrees)))) few sighted
 
   -- by its first open branch
   pub did_branch :
       Did (λ before after. IsRight (record { layout = layout; ops = job.ops }) before after (Ran finished.replies)) k n finished.number →
-      DidJob Branches layout job k n finished
-  did_branch d = did_job Branches _ d (answered_branch layout job.ops finished.replies d.entry) (λ loose. absurd (cc))
+      WasSightedByOpens n → DidJob Branches layout job k n finished
+  did_branch d sighted =
+      did_job Branches _ d (answered_branch layout job.ops finished.replies d.entry) (λ loose. absurd (cc))
+      (λ _. sighted)

@@ -10,6 +10,9 @@ use Rattle.dstm_jobs.specs.declared.style.Style.TheVariants.{Branches, Loose}
 use Rattle.dstm_jobs.specs.declared.trying.Finished.{Finished}
 use Rattle.dstm_jobs.specs.declared.trying.Tried.{Tried}
 use Rattle.dstm_jobs.specs.declared.trying.Tried.TheVariants as tried
+use Rattle.dstm_engine.specs.Attempts.{SightedByOpens}
+use Rattle.dstm_tables.specs.declared.tables.Caller.TheVariants.{Dstm, Tl2}
+use Rattle.dstm_jobs.specs.Law.{keeps}
 use Rattle.dstm_jobs.specs.Tables.{Caller, IsSpentFrom, OneMore, Round, WasKept}
 use Rattle.dstm_tables.specs.Callers.{begun, done, number_of, round_of}
 use Rattle.dstm_tables.specs.Tells.{HasCommitted, IsSpent, WasDisturbed, WasGivenUpAfter, begun_of, lets_go, seen_of, used_by, writes_all}
@@ -39,8 +42,13 @@ HadToStop workload next round c =
 
 -- ---- one attempt
 
+-- under DSTM the last attempt, which has committed, was made sure of by its opens and its commit alone
+abbrev pub WasSightedByOpens : Caller → Type 0
+WasSightedByOpens (Dstm k) = SightedByOpens keeps k
+WasSightedByOpens (Tl2 k) = Unit {0}
+
 -- It did the job: its transaction is the newest one that the caller has committed. A loose one keeps few reads, where reads
--- are let go.
+-- are let go. One that ran branches had no sights but those of its opens and of its commit.
 pub record DidJob (style : Style) (layout : Layout) (job : Job) (k n : Caller) (finished : Finished) : Type 0 where
   pub made : OneMore k n
   pub committed : HasCommitted (round_of n) (number_of n) (begun n)
@@ -48,6 +56,7 @@ pub record DidJob (style : Style) (layout : Layout) (job : Job) (k n : Caller) (
   pub newest : done n ≡ by ∷ done k
   pub is : IsDone layout job finished by
   pub few_reads : style ≡ Loose → lets_go (round_of n) ≡ true → KeepsFew job by
+  pub sighted : style ≡ Branches → WasSightedByOpens n
 
 -- It was given up at the job, which has branches: the job is blocked on every lawful map that agrees with what it has read.
 -- Under DSTM it had made sure so many times that this stands, and has used no locator where reads stay reads.

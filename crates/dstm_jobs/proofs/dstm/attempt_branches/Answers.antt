@@ -85,6 +85,7 @@ returns-in-Ok-commit-clause-tried c =
     (record { number = c.in-Ok-commit.number; replies = c.in-Ran.replies }) c.requires.law end.kept end.attempt
     end.stays.steps.run end.ended.told end.number
     (right at.In-Ok-run (Ran c.in-Ran.replies) (sym c.outcome.ensures ∙ c.in-Ran.is))
+    (record { ran = c.run.new.tx.caller.now; few = c.in-Ok-run.ensures.few; commit = end.stays.steps })
 
 pub returns-in-Err-commit-clause-tried : goal.returns-in-Err-commit-clause-tried
 returns-in-Err-commit-clause-tried c =

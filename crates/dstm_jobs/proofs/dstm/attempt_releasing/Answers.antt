@@ -24,6 +24,7 @@ returns-in-Ok c =
     (did _ k n c.in-Ok.done.number c.requires.rest (one_more k n None c.requires.rest attempts) (attempts.status refl)
     c.in-Ok.ensures.settles)
     (few_loose c.args.job.now k n body.task c.attempt_loose.ensures.table ops c.in-Ok.ensures.few)
+    (λ is. absurd (cc))
 
 pub returns-in-Err-Again : goal.returns-in-Err-Again
 returns-in-Err-Again c =

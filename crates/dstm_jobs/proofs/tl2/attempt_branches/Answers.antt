@@ -49,7 +49,7 @@ returns-in-Ok-commit c = λ rechecks.
     (λ map admits. right_for c.args.layout.now c.args.job.now.ops c.run.new.self.task c.run.new.self.outcome _ map _
     (ap (λ (j : JobTask). j.layout) ran.task ∙ c.make-body.ensures.layout)
     (ap (λ (j : JobTask). j.ops) ran.task ∙ c.make-body.ensures.ops) (sym c.outcome.ensures ∙ c.in-Ran.is)
-    (ran.right map admits)))))
+    (ran.right map admits)))) tt)
 
 pub returns-in-Err-commit : goal.returns-in-Err-commit
 returns-in-Err-commit c = λ rechecks.

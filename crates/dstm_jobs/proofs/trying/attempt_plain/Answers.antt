@@ -11,3 +11,4 @@ returns-in-Ok-clause-tried c =
     (record { number = c.in-Ok.number; replies = c.into_replies.result }) c.requires.law Plain c.attempt.new.body
     (ap (λ (t : JobTask). t.layout) task ∙ c.make-body.ensures.layout) (ap (λ (t : JobTask). t.ops) task ∙ c.make-body.ensures.ops)
     c.into_replies.ensures (c.requires.can.plain (λ is. cc)) c.in-Ok.ensures.done (λ loose. absurd (cc))
+    (λ is. absurd (cc))
