@@ -5,7 +5,7 @@ use denote.Ref.{MutBor}
 use Rattle.std.specs.Fn.{FnOnceReturnsAtMut, Once}
 use Rattle.dstm_model.specs.declared.value.Val.{Val}
 use Rattle.dstm_cells.specs.Alternatives.{CalledOn, IsUndone, Noting, Notes, NotesOnce, Undoes, in_alternative, settings}
-use Rattle.dstm_cells.specs.UnderWay.{Keeps}
+use Rattle.dstm_cells.specs.UnderWay.{Keeps, MayBegin}
 use Rattle.dstm_cells.specs.declared.error.Stop.{Stop}
 use Rattle.dstm_cells.specs.declared.under_way.Undo.{Undo}
 use Rattle.dstm_cells.proofs.Undoing.{first_left, first_notes, first_undone, first_undos}
@@ -41,6 +41,14 @@ module _ {X L F R : Type 0} (noting : X → Noting L)
         undone undoes =
             first_undone holds (noting x) (noting b) (noting m) notes leaves (noting n) keeps same
             (undoes (noting x).undos _ (first_undos holds (noting x) (noting b) (noting m) notes leaves) (sym size))
+
+        -- what the first alternative has read stays read
+        pub stays_read : ((front added : List Undo) → (noting m).undos ≡ front ++ added → length front ≡ kept →
+            Undoes holds front added [] (noting m) (noting n)) →
+            (map : List Val) → MayBegin holds (noting n).caller map → MayBegin holds (noting b).caller map
+        stays_read undoes map may =
+            let back = undoes (noting x).undos _ (first_undos holds (noting x) (noting b) (noting m) notes leaves) (sym size) in
+            subst (λ (k : Noting L). MayBegin holds k.caller map) leaves (back.narrows map may)
 
         pub stopped : ((front added : List Undo) → (noting m).undos ≡ front ++ added → length front ≡ kept →
             (left : List Undo) × Undoes holds front added left (noting m) (noting n)) → Notes holds (noting x) (noting n)

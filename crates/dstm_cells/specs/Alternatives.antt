@@ -1,5 +1,5 @@
 -- What an alternative of a transaction has set, how it is undone, and what becomes of two alternatives.
-use Rattle.std.specs.Prelude.{◌≡◌, ◌≢◌, ◌⊎◌, ℕ, Bool, true, false, List, [], ◌∷◌, ◌++◌, Result, Err, slice_set}
+use Rattle.std.specs.Prelude.{◌≡◌, ◌≢◌, ◌⊎◌, ℕ, Bool, true, false, ◌<◌, List, [], ◌∷◌, ◌++◌, length, Result, Err, slice_set}
 use denote.Ref.{MutBor}
 use Rattle.std.specs.Fn.{FnOnceReturnsAtMut, Once}
 use Rattle.dstm_model.specs.declared.value.Law.{Ghosts}
@@ -98,18 +98,21 @@ module _ {X L F G R : Type 0} (noting : X → Noting L) (holds : L → List Val 
     pub goes_on : answer ≢ Err (stop_by Retry)
     pub leaves : n ≡ record left { notes = k.notes }
 
-  -- the first alternative retried, what it had set was undone, and the second one was called
+  -- The first alternative retried, what it had set was undone, and the second one was called. What the first had read
+  -- stays read.
   pub record GoesBySecond : Type 0 where
     pub left : Noting L
     pub retries : CalledOn noting g first (in_alternative k) (Err (stop_by Retry)) left
     pub between : Noting L
     pub undone : IsUndone holds k between
+    pub stays : (map : List Val) → MayBegin holds between.caller map → MayBegin holds left.caller map
     pub called : CalledOn noting h second between answer n
 
-  -- the first alternative retried, and what it had set could not be undone
+  -- the first alternative retried, and what it had set, which was noted, could not be undone
   pub record StopsBetween : Type 0 where
     pub left : Noting L
     pub retries : CalledOn noting g first (in_alternative k) (Err (stop_by Retry)) left
+    pub noted : length k.undos < length left.undos
     pub stop : Stop
     pub is : answer ≡ Err stop
     pub stops : StopsUndoing holds left.caller n.caller stop

@@ -11,6 +11,12 @@ use Rattle.dstm_cells.specs.declared.error.Stop.{Stop}
 use Rattle.dstm_cells.specs.Attempts.{Follows}
 use Rattle.dstm_cells.specs.UnderWay.{AddsNothing, IsUntouched, Keeps, LeavesLawful, TakesEffect}
 
+-- each call of the closure keeps how often its transaction looks where it retries
+abbrev pub KeepsPatience : {X F R : Type 0} (patience : X → ℕ) →
+    Mut F (MutBor X × Unit {0}) (Result R Stop × (MutBor X × Unit {0})) → Type 0
+KeepsPatience {X} {F} {R} patience g =
+    (f n : F) (old new : X) (answer : Result R Stop) → CalledAtMut g f old answer n new → patience new ≡ patience old
+
 module _ {X L F R : Type 0} (caller : X → Caller L) where
   -- an alternative leaves the transaction that it was given, and no other one in its place
   abbrev pub KeepsOnce : Once F (MutBor X × Unit {0}) (Result R Stop × (MutBor X × Unit {0})) → F → Type 0

@@ -157,6 +157,7 @@ impl<L: Law + Copy> Memory<L> {
         ensures table { home_there founder.new ≡ table.now }
         ensures home { IfOk result (λ me. home_of me.tx.attempts.caller ≡ table.now) }
         ensures enrols { IfOk result (λ me. Enrols L.holds founder.old founder.new seed me.tx.attempts.caller) }
+        ensures looks { IfOk result (λ me. me.tx.looks ≡ 1048576) }
         ensures full { result ≡ Err failed.Threads ↔ made_of founder.old ≡ callers_there table.now }
         ensures fails { IfErr result (λ why. (why ≡ failed.Threads) ⊎ (why ≡ failed.Memory)) }
     {

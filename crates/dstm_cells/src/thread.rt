@@ -1,6 +1,7 @@
 // A thread's part in a run.
 ghost use Rattle.std.specs.Prelude.{◌≡◌, IfErr, IfOk};
-ghost use Rattle.dstm_cells.specs.Closures.{GaveUpFor, IsLawful, KeepsEach, TookEffect};
+ghost use Rattle.dstm_attempts.specs.Attempts.{IsQuit};
+ghost use Rattle.dstm_cells.specs.Closures.{GaveUpFor, IsLawful, KeepsEach, KeepsPatience, TookEffect};
 ghost use Rattle.dstm_cells.specs.UnderWay.{AddsNothing};
 
 use crate::error::{GaveUp, Stop};
@@ -35,6 +36,8 @@ impl<X: Transaction> Part<X> {
             IfErr result (λ _. AddsNothing (X.caller self.old.tx) (X.caller self.new.tx)) }
         ensures why { KeepsEach X.caller F.FnMut →
             IfErr result (GaveUpFor X.caller F.FnMut X.Rule.holds X.patience (X.caller self.old.tx) (X.caller self.new.tx)) }
+        ensures quit { IsQuit (X.caller self.old.tx) → IsQuit (X.caller self.new.tx) }
+        ensures patience { KeepsPatience X.patience F.FnMut → X.patience self.new.tx ≡ X.patience self.old.tx }
     {
         let mut f = f;
         self.tx.renew();

@@ -1,7 +1,7 @@
 // What makes the transactions of a thread, one after the other.
-ghost use Rattle.std.specs.Prelude.{◌++◌, ◌≡◌, ℕ, List, [], true, false, length, IfErr, OnOk};
+ghost use Rattle.std.specs.Prelude.{◌++◌, ◌≡◌, ◌<◌, ℕ, List, [], true, false, length, IfErr, OnOk};
 ghost use Rattle.dstm_tables.specs.declared.tables.Caller.{Caller};
-ghost use Rattle.dstm_attempts.specs.Attempts.{AddsNothing, Begins, IsLost, IsSpent, Keeps, LeavesLawful, TakesEffect, attempts_of, renewed};
+ghost use Rattle.dstm_attempts.specs.Attempts.{AddsNothing, Begins, IsLost, IsQuit, IsSpent, Keeps, LeavesLawful, TakesEffect, attempts_of, renewed};
 ghost use Rattle.dstm_cells.specs.Alternatives.{Noting, StopsUndoing, Undoes, noting, settings};
 ghost use Rattle.dstm_cells.specs.Attempts.{Follows, StaysFor};
 ghost use Rattle.dstm_cells.specs.declared.error.GaveUp.TheVariants.{Spent};
@@ -31,25 +31,32 @@ pub trait Transaction: Drop {
 
     /// Makes the next attempt the first of a new transaction.
     fn renew(&mut self)
-        ensures { caller self.new ≡ renewed (caller self.old) };
+        ensures caller { caller self.new ≡ renewed (caller self.old) }
+        ensures patience { patience self.new ≡ patience self.old };
 
     /// Begins an attempt.
     fn begin(&mut self) -> Result<(), GaveUp>
         ensures begins { OnOk result (Begins Self.Rule.holds (caller self.old) (caller self.new)) }
         ensures spent { IfErr result (λ why. (why ≡ Spent) × IsSpent (caller self.new)) }
-        ensures nothing { AddsNothing (caller self.old) (caller self.new) };
+        ensures quit { IfErr result (λ _. IsQuit (caller self.new)) }
+        ensures nothing { AddsNothing (caller self.old) (caller self.new) }
+        ensures unnoted { ((noting self.new).notes ≡ false) × ((noting self.new).undos ≡ []) }
+        ensures patience { patience self.new ≡ patience self.old };
 
     /// Commits the attempt, and tells whether it has taken effect.
     fn commit(&mut self) -> bool
         requires lawful { LeavesLawful Self.Rule.holds (caller self.old) }
         ensures takes { result ≡ true → TakesEffect Self.Rule.holds (caller self.old) (caller self.new) }
         ensures keeps { result ≡ false → Keeps (caller self.old) (caller self.new) }
-        ensures lost { result ≡ false → IsLost Self.Rule.holds (caller self.old) (caller self.new) };
+        ensures lost { result ≡ false → IsLost Self.Rule.holds (caller self.old) (caller self.new) }
+        ensures patience { patience self.new ≡ patience self.old };
 
     /// Leaves the attempt that a closure has stopped, and tells whether there may be another one.
     fn leave(&mut self, stop: Stop) -> Result<(), GaveUp>
         ensures stays { StaysFor stop.why (caller self.old) (caller self.new) }
-        ensures follows { Follows Self.Rule.holds (patience self.old) (caller self.old) stop.why result };
+        ensures quit { IsQuit (caller self.new) }
+        ensures follows { Follows Self.Rule.holds (patience self.old) (caller self.old) stop.why result }
+        ensures patience { patience self.new ≡ patience self.old };
 
     /// How often a transaction that retries looks at most whether something that it has read has changed.
     fn set_looks(&mut self, looks: u32)
@@ -74,6 +81,7 @@ pub trait Transaction: Drop {
         ensures left { IfErr result (λ _. (first added : List Undo) → (noting self.old).undos ≡ first ++ added
             → length first ≡ kept
             → (left : List Undo) × Undoes Self.Rule.holds first added left (noting self.old) (noting self.new)) }
+        ensures some { IfErr result (λ _. kept < length (noting self.old).undos) }
         ensures stops { IfErr result (StopsUndoing Self.Rule.holds (noting self.old).caller (noting self.new).caller) };
 }
 

@@ -1,7 +1,7 @@
 // What a closure may do in its transaction.
 ghost use Rattle.std.specs.Prelude.{◌++◌, ◌⊎◌, ◌≡◌, List, [], ◌∷◌, length, true, false, IfErr, IfOk, Ok, OnOk, Err, if◌then◌else◌};
 ghost use Rattle.dstm_tables.specs.Callers.{home_of, law_of};
-ghost use Rattle.dstm_attempts.specs.Attempts.{Exchanges, Finds, IsClosed, IsUntouched, Keeps, MayBegin, objects_of};
+ghost use Rattle.dstm_attempts.specs.Attempts.{Exchanges, Finds, IsClosed, IsUntouched, Keeps, MayBegin, Opens, StoodTogether, objects_of};
 ghost use Rattle.dstm_cells.specs.Alternatives.{Notes, NotesOnce, OrElse, noting, settings};
 ghost use Rattle.dstm_cells.specs.Attempts.{CouldNotRead, Follows, FollowsLooks, FollowsRetry, StaysFor, StaysLooking, StaysWaiting};
 ghost use Rattle.dstm_cells.specs.Cells.{ReadsAll};
@@ -33,7 +33,7 @@ impl<'a, L: Law> Tx<'a, L> {
         requires table { home_of caller ≡ table.now }
         requires closed { IsClosed caller }
         ensures caller { result.attempts.caller ≡ caller }
-        ensures looks { result.looks ≡ LOOKS }
+        ensures looks { result.looks ≡ 1048576 }
     {
         Tx {
             attempts: Attempts::of(alloc, caller),
@@ -51,6 +51,9 @@ impl<'a, L: Law> Tx<'a, L> {
         ensures notes { Notes L.holds (noting self.old) (noting self.new) }
         ensures refuses { Refuses self.old.attempts.caller cell.object result }
         ensures gets { IfOk result (Gets L.holds T.found self.old.attempts.caller self.new.attempts.caller cell.object) }
+        ensures once { OnOk result (Opens L.holds false cell.object self.old.attempts.caller self.new.attempts.caller) }
+        ensures together { OnOk result (StoodTogether L.holds self.new.attempts.caller) }
+        ensures may { OnOk result ((map : List Val) × MayBegin L.holds self.new.attempts.caller map) }
     {
         let val = self.read(cell.object)?;
         Ok(T::of_val(val))
@@ -63,6 +66,9 @@ impl<'a, L: Law> Tx<'a, L> {
         ensures notes { Notes L.holds (noting self.old) (noting self.new) }
         ensures refuses { Refuses self.old.attempts.caller cell.object result }
         ensures puts { OnOk result ((had : T) × Changes L.holds T.found self.old.attempts.caller self.new.attempts.caller cell.object had value) }
+        ensures once { OnOk result (Opens L.holds true cell.object self.old.attempts.caller self.new.attempts.caller) }
+        ensures together { OnOk result (StoodTogether L.holds self.new.attempts.caller) }
+        ensures may { OnOk result ((map : List Val) × MayBegin L.holds self.new.attempts.caller map) }
     {
         let _old = self.replace(cell, value)?;
         Ok(())
@@ -75,6 +81,9 @@ impl<'a, L: Law> Tx<'a, L> {
         ensures notes { Notes L.holds (noting self.old) (noting self.new) }
         ensures refuses { Refuses self.old.attempts.caller cell.object result }
         ensures puts { IfOk result (λ had. Changes L.holds T.found self.old.attempts.caller self.new.attempts.caller cell.object had value) }
+        ensures once { OnOk result (Opens L.holds true cell.object self.old.attempts.caller self.new.attempts.caller) }
+        ensures together { OnOk result (StoodTogether L.holds self.new.attempts.caller) }
+        ensures may { OnOk result ((map : List Val) × MayBegin L.holds self.new.attempts.caller map) }
     {
         let old = self.change(cell.object, |_| value.to_val())?;
         Ok(T::of_val(old))
@@ -89,6 +98,9 @@ impl<'a, L: Law> Tx<'a, L> {
         ensures refuses { Refuses self.old.attempts.caller cell.object result }
         ensures puts { IfOk result (λ had.
             (value : T) × F.post f had value × Changes L.holds T.found self.old.attempts.caller self.new.attempts.caller cell.object had value) }
+        ensures once { OnOk result (Opens L.holds true cell.object self.old.attempts.caller self.new.attempts.caller) }
+        ensures together { OnOk result (StoodTogether L.holds self.new.attempts.caller) }
+        ensures may { OnOk result ((map : List Val) × MayBegin L.holds self.new.attempts.caller map) }
     {
         let old = self.change(cell.object, |val| f(T::of_val(val)).to_val())?;
         Ok(T::of_val(old))
@@ -117,6 +129,8 @@ impl<'a, L: Law> Tx<'a, L> {
         ensures notes { Notes L.holds (noting self.old) (noting self.new) }
         ensures refuses { Refuses self.old.attempts.caller object result }
         ensures finds { IfOk result (Finds L.holds self.old.attempts.caller self.new.attempts.caller object) }
+        ensures once { OnOk result (Opens L.holds false object self.old.attempts.caller self.new.attempts.caller) }
+        ensures together { OnOk result (StoodTogether L.holds self.new.attempts.caller) }
         ensures may { OnOk result ((map : List Val) × MayBegin L.holds self.new.attempts.caller map) }
     {
         let value = self.attempts.read(self.table, object)?;
@@ -132,6 +146,9 @@ impl<'a, L: Law> Tx<'a, L> {
         ensures refuses { Refuses self.old.attempts.caller object result }
         ensures changes { IfOk result (λ had.
             (value : Val) × F.post f had value × Exchanges L.holds self.old.attempts.caller self.new.attempts.caller object had value) }
+        ensures once { OnOk result (Opens L.holds true object self.old.attempts.caller self.new.attempts.caller) }
+        ensures together { OnOk result (StoodTogether L.holds self.new.attempts.caller) }
+        ensures may { OnOk result ((map : List Val) × MayBegin L.holds self.new.attempts.caller map) }
     {
         let value = self.attempts.write(self.table, object)?;
         note_undo(&mut self.undos, self.notes, Undo { object, value })?;
@@ -156,6 +173,7 @@ impl<'a, L: Law> Tx<'a, L> {
     // What follows where a closure has stopped the attempt. After a retry it waits.
     pub(crate) fn follow(&mut self, why: Why) -> Result<(), GaveUp>
         ensures stays { StaysFor why self.old.attempts.caller self.new.attempts.caller }
+        ensures looks { self.new.looks ≡ self.old.looks }
         ensures follows { Follows L.holds self.old.looks self.old.attempts.caller why result }
     {
         match why {
@@ -169,6 +187,7 @@ impl<'a, L: Law> Tx<'a, L> {
     // Waits until something has changed. First the attempt lets go of what it has set, so that it stands in nobody's way.
     fn wait(&mut self) -> Result<(), GaveUp>
         ensures stays { StaysWaiting self.old.attempts.caller self.new.attempts.caller }
+        ensures looks { self.new.looks ≡ self.old.looks }
         ensures follows { FollowsRetry L.holds self.old.looks self.old.attempts.caller result }
     {
         match self.attempts.let_go(self.table) {
@@ -182,6 +201,7 @@ impl<'a, L: Law> Tx<'a, L> {
     // Looks until something has changed. It gives way at each look.
     fn look_on(&mut self) -> Result<(), GaveUp>
         ensures stays { StaysLooking self.old.attempts.caller self.new.attempts.caller }
+        ensures looks { self.new.looks ≡ self.old.looks }
         ensures follows { FollowsLooks L.holds self.old.looks self.old.attempts.caller result }
     {
         let began = self.attempts.clock();

@@ -1,10 +1,10 @@
-use Rattle.std.proofs.Common.{◌≡◌, ◌∙◌, Err, ap, inl, inr, refl, subst}
+use Rattle.std.proofs.Common.{◌≡◌, ◌<◌, ◌∙◌, Err, ap, inl, inr, length, refl, subst}
 use Rattle.std.specs.Prelude.{Result}
 use Rattle.dstm_cells.specs.Alternatives.{Noting, StopsUndoing}
 use Rattle.dstm_cells.specs.UnderWay.{attempt, stop_by}
 use Rattle.dstm_cells.specs.declared.error.Stop.{Stop}
 use Rattle.dstm_cells.specs.declared.error.Why.TheVariants.{Retry}
-use Rattle.dstm_cells.proofs.Alternating.{First, called, leaves, left_notes, stopped, undone}
+use Rattle.dstm_cells.proofs.Alternating.{First, called, leaves, left_notes, stays_read, stopped, undone}
 use Rattle.dstm_cells.proofs.Calling.{err_is, once_at, once_kept}
 use Rattle.dstm_cells.proofs.Undoing.{notes_twice, undone_notes}
 use Rattle.dstm_cells.proofs.alternatives.or_else.Given.{Over}
@@ -72,6 +72,9 @@ returns-in_err-undo_to-clause-does g c first =
       left = noting c.first-answer.new.arg2;
       retries = called noting g.F.FnOnce c.args.first g.X.Rule.Law.holds c.args.tx.now c.note-notes.new.self c.first-answer.new.arg2
           c.note-noted.new.self (Err (stop_by Retry)) it;
+      noted = subst (λ (k : Noting _). length (noting c.args.tx.now).undos < length k.undos) it.off
+          (subst (λ kept. kept < length (noting c.note-noted.new.self).undos) c.noted-kept.ensures
+          c.in_err-undo_to.ensures.some);
       stop = c.in_err-undo_to.field-0.0;
       is = err_is c.from_residual.result _ c.from_residual.ensures.1;
       stops = subst (λ (k : Noting _). StopsUndoing g.X.Rule.Law.holds k.caller (noting c.undo_to.new.self).caller c.in_err-undo_to.field-0.0)
@@ -107,6 +110,9 @@ returns-clause-does g c first =
           c.note-noted.new.self (Err (stop_by Retry)) it;
       between = noting c.undo_to.new.self;
       undone = undone noting g.F.FnOnce c.args.first g.X.Rule.Law.holds c.args.tx.now c.note-notes.new.self c.first-answer.new.arg2
+          c.note-noted.new.self (Err (stop_by Retry)) it first
+          c.undo_to.new.self c.noted-kept.result c.noted-kept.ensures c.undo_to.ensures.keeps c.undo_to.ensures.notes c.in_ok-undo_to.ensures.undone;
+      stays = stays_read noting g.F.FnOnce c.args.first g.X.Rule.Law.holds c.args.tx.now c.note-notes.new.self c.first-answer.new.arg2
           c.note-noted.new.self (Err (stop_by Retry)) it first
           c.undo_to.new.self c.noted-kept.result c.noted-kept.ensures c.undo_to.ensures.keeps c.undo_to.ensures.notes c.in_ok-undo_to.ensures.undone;
       called = record {

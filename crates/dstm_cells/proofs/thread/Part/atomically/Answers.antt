@@ -1,10 +1,10 @@
 use Rattle.std.proofs.Common.{◌≡◌, ◌≤◌, ◌∙◌, ap, arith, inl, inr, of_calls, refl, subst, sym}
 use Rattle.std.specs.Fn.{CalledAtMut}
 use Rattle.dstm_tables.specs.declared.tables.Caller.{Caller}
-use Rattle.dstm_attempts.specs.Attempts.{AddsNothing, attempt, attempts_of, begun}
+use Rattle.dstm_attempts.specs.Attempts.{AddsNothing, IsQuit, attempt, attempts_of, begun}
 use Rattle.dstm_cells.specs.Attempts.{StaysFor}
 use Rattle.dstm_cells.specs.declared.thread.Part.{Part}
-use Rattle.dstm_attempts.proofs.UnderWay.{adds_nothing, begins_none, nothing_twice, spent_at}
+use Rattle.dstm_attempts.proofs.UnderWay.{adds_nothing, begins_none, lost_quit, nothing_twice, renewed_quit, spent_at, takes_quit}
 use Rattle.dstm_cells.proofs.Calling.{called_anew, called_at, if_err, is_err}
 use Rattle.dstm_cells.proofs.Spending.{renewed_nothing, same_attempts}
 use Rattle.dstm_cells.proofs.Waiting.{kept_nothing, stop_nothing}
@@ -59,19 +59,49 @@ returns-clause-why g c keeps =
     inl (
       refl,
       spent_at (caller c.loop-number.self.tx) c.attempts-number-end.result
-          (c.attempts-number-end.ensures ∙ ap (λ (k : Caller _). attempts_of k) c.renew.ensures ∙ same_attempts first _ (renewed_nothing first).home
+          (c.attempts-number-end.ensures ∙ ap (λ (k : Caller _). attempts_of k) c.renew.ensures.caller ∙ same_attempts first _ (renewed_nothing first).home
           ∙ sym (same_attempts first (caller c.loop-number.self.tx) nothing.home))
           (omega (arith, begun, c.loop-number-test.false)),
     )
+
+pub returns-then-commit-clause-quit : goal.returns-then-commit-clause-quit
+returns-then-commit-clause-quit g c quit = takes_quit g.X.Rule.Law.holds _ _ (c.commit.ensures.takes c.if-commit.true)
+
+pub returns-in_err-leave-in-Err-clause-quit : goal.returns-in_err-leave-in-Err-clause-quit
+returns-in_err-leave-in-Err-clause-quit g c quit = c.leave.ensures.quit
+
+pub returns-in_err-begin-clause-quit : goal.returns-in_err-begin-clause-quit
+returns-in_err-begin-clause-quit g c quit = c.in_err-begin.ensures.quit
+
+pub returns-clause-quit : goal.returns-clause-quit
+returns-clause-quit g c = c.loop-number.invariant.2
+
+pub returns-then-commit-clause-patience : goal.returns-then-commit-clause-patience
+returns-then-commit-clause-patience g c keeps =
+    c.commit.ensures.patience ∙ keeps _ _ _ _ _ (called_at g.F.FnMut c.loop-number.f c.f.new.self _ _ _ c.f.ensures)
+    ∙ c.begin.ensures.patience ∙ c.loop-number.invariant.3 keeps
+
+pub returns-in_err-leave-in-Err-clause-patience : goal.returns-in_err-leave-in-Err-clause-patience
+returns-in_err-leave-in-Err-clause-patience g c keeps =
+    c.leave.ensures.patience ∙ keeps _ _ _ _ _ (called_at g.F.FnMut c.loop-number.f c.f.new.self _ _ _ c.f.ensures)
+    ∙ c.begin.ensures.patience ∙ c.loop-number.invariant.3 keeps
+
+pub returns-in_err-begin-clause-patience : goal.returns-in_err-begin-clause-patience
+returns-in_err-begin-clause-patience g c keeps = c.begin.ensures.patience ∙ c.loop-number.invariant.3 keeps
+
+pub returns-clause-patience : goal.returns-clause-patience
+returns-clause-patience g c = c.loop-number.invariant.3
 
 pub loop-number-init : goal.loop-number-init
 loop-number-init g c = (
   search of_calls,
   λ keeps. (
-    subst (λ (k : Caller _). AddsNothing (g.X.Transaction.caller c.args.self.now.tx) k) (sym c.renew.ensures)
+    subst (λ (k : Caller _). AddsNothing (g.X.Transaction.caller c.args.self.now.tx) k) (sym c.renew.ensures.caller)
         (renewed_nothing (g.X.Transaction.caller c.args.self.now.tx)),
     omega arith,
   ),
+  λ quit. subst IsQuit (sym c.renew.ensures.caller) (renewed_quit (g.X.Transaction.caller c.args.self.now.tx) quit),
+  λ keeps. c.renew.ensures.patience,
 )
 
 pub loop-number-preserved : goal.loop-number-preserved
@@ -103,4 +133,21 @@ loop-number-preserved g c = (
             (adds_nothing (caller c.begin.new.self) after called)) left.0,
         omega (arith, one_more, begun_so_far, same, no_less),
       ),
+  λ quit.
+      let caller = g.X.Transaction.caller in
+      elim c.match-f.branch [
+        | in-Ok+else-commit w ↦
+            subst (λ (p : Part _). IsQuit (caller p.tx)) (sym w.self-is)
+            (lost_quit g.X.Rule.Law.holds _ _ (w.commit.ensures.lost w.if-commit.false))
+        | in-Err+in_ok-leave-in-Err w ↦
+            subst (λ (p : Part _). IsQuit (caller p.tx)) (sym w.self-is) w.leave.ensures.quit
+      ],
+  λ keeps.
+      let patience = g.X.Transaction.patience in
+      let call = called_at g.F.FnMut c.loop-number.f c.f.new.self _ _ _ c.f.ensures in
+      let before = keeps _ _ _ _ _ call ∙ c.begin.ensures.patience ∙ c.loop-number.invariant.3 keeps in
+      elim c.match-f.branch [
+        | in-Ok+else-commit w ↦ ap (λ (p : Part _). patience p.tx) w.self-is ∙ w.commit.ensures.patience ∙ before
+        | in-Err+in_ok-leave-in-Err w ↦ ap (λ (p : Part _). patience p.tx) w.self-is ∙ w.leave.ensures.patience ∙ before
+      ],
 )

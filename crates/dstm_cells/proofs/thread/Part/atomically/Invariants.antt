@@ -1,6 +1,6 @@
-use Rattle.std.proofs.Common.{◌≤◌}
-use Rattle.dstm_attempts.specs.Attempts.{AddsNothing, begun}
-use Rattle.dstm_cells.specs.Closures.{KeepsEach}
+use Rattle.std.proofs.Common.{◌≡◌, ◌≤◌}
+use Rattle.dstm_attempts.specs.Attempts.{AddsNothing, IsQuit, begun}
+use Rattle.dstm_cells.specs.Closures.{KeepsEach, KeepsPatience}
 use Rattle.dstm_cells.proofs.thread.Part.atomically.Given as goal
 
 -- nothing was committed so far, and each call was on an attempt of its own
@@ -10,3 +10,6 @@ invariant-loop-number g l =
     × (KeepsEach g.X.Transaction.caller g.F.FnMut →
     AddsNothing (g.X.Transaction.caller l.fn.self.tx) (g.X.Transaction.caller l.self.tx)
     × (l._number ≤ begun (g.X.Transaction.caller l.self.tx)))
+    × (IsQuit (g.X.Transaction.caller l.fn.self.tx) → IsQuit (g.X.Transaction.caller l.self.tx))
+    × (KeepsPatience g.X.Transaction.patience g.F.FnMut →
+    g.X.Transaction.patience l.self.tx ≡ g.X.Transaction.patience l.fn.self.tx)

@@ -1,6 +1,8 @@
-use Rattle.std.proofs.Common.{◌-◌, ◌∙◌, ap, arith, rules, take}
+use Rattle.std.proofs.Common.{◌-◌, ◌∙◌, List, ap, arith, length, rules, take}
+use Rattle.std.proofs.lemmas.List.{length-take-le}
 use Rattle.dstm_cells.specs.Alternatives.{StopsUndoing, noting}
-use Rattle.dstm_cells.proofs.Calling.{is_err}
+use Rattle.dstm_cells.specs.declared.under_way.Undo.{Undo}
+use Rattle.dstm_cells.proofs.Calling.{if_err, is_err}
 use Rattle.dstm_cells.proofs.Undoing.{undoes_step}
 use Rattle.dstm_cells.proofs.transaction.TxTransaction.undo_to.Goals as goal
 
@@ -15,6 +17,11 @@ returns-in_err-put-clause-stops g c =
       stops = c.in_err-put.ensures.stops;
     })
 
+pub returns-in_err-put-clause-some : goal.returns-in_err-put-clause-some
+returns-in_err-put-clause-some g c =
+    let so_far = c.loop-self.invariant.fewer in
+    if_err c.from_residual.result (omega (arith, so_far, c.len.ensures, c.loop-self-test.true))
+
 pub returns-in_err-put-clause-notes : goal.returns-in_err-put-clause-notes
 returns-in_err-put-clause-notes g c = c.in_err-put.ensures.notes ∙ c.loop-self.invariant.notes
 
@@ -25,6 +32,12 @@ pub loop-self-preserved : goal.loop-self-preserved
 loop-self-preserved g c = record {
   keeps = search rules;
   notes = c.in_ok-put.ensures.notes ∙ c.loop-self.invariant.notes;
+  fewer =
+      let last = c.len-last.result - 1 in
+      let was = ap (λ (xs : List Undo). length xs) (c.truncate.ensures.items ∙ ap (take last) c.in_ok-put.ensures.undos) in
+      let size = length-take-le last c.loop-self.self.undos.items (omega (arith, c.len-last.ensures)) in
+      let so_far = c.loop-self.invariant.fewer in
+      omega (arith, was, size, so_far, c.len-last.ensures, c.len.ensures, c.loop-self-test.true);
   undoes = λ first added was size.
       let (left, so_far) = c.loop-self.invariant.undoes first added was size in
       let (had, exchanges) = c.in_ok-put.ensures.puts in

@@ -1,4 +1,4 @@
-use Rattle.std.proofs.Common.{◌≡◌, ◌++◌, List, length, vec_len}
+use Rattle.std.proofs.Common.{◌≡◌, ◌++◌, ◌≤◌, List, length, vec_len}
 use Rattle.dstm_cells.specs.Alternatives.{Undoes, noting, settings}
 use Rattle.dstm_cells.specs.UnderWay.{Keeps}
 use Rattle.dstm_cells.specs.declared.under_way.Undo.{Undo}
@@ -9,6 +9,7 @@ abbrev pub invariant-loop-self : goal.invariant-loop-self
 invariant-loop-self g l = record {
   keeps : Keeps l.fn.self.attempts.caller l.self.attempts.caller;
   notes : settings (noting l.self) ≡ settings (noting l.fn.self);
+  fewer : length l.self.undos.items ≤ length l.fn.self.undos.items;
   undoes : (first added : List Undo) → l.fn.self.undos.items ≡ first ++ added → length first ≡ l.kept →
       (left : List Undo) × Undoes g.L.Law.holds first added left (noting l.fn.self) (noting l.self);
 }

@@ -1,5 +1,5 @@
 use Rattle.std.proofs.Common.{◌∙◌, Ok, refl, subst, sym}
-use Rattle.dstm_attempts.proofs.UnderWay.{exchanges, found_unset}
+use Rattle.dstm_attempts.proofs.UnderWay.{exchanges, found_unset, may_still, opens_still, stood_still}
 use Rattle.dstm_cells.specs.UnderWay.{Refuses, StopsChange, stop_by, stop_for}
 use Rattle.dstm_cells.specs.declared.error.Why.TheVariants.{Memory}
 use Rattle.dstm_cells.proofs.Calling.{err_is, is_err}
@@ -64,3 +64,14 @@ unfolding returns-clause-changes
 returns-clause-notes g c =
     notes_one g.L.Law.holds _ _ c.args.object c.in_ok-value.value c.f.result
     (c.set.ensures.keeps ∙ c.in_ok-value.ensures.keeps) refl c.in_ok-note_undo.ensures.noted (returns-clause-changes g c).2
+
+pub returns-clause-once : goal.returns-clause-once
+returns-clause-once g c =
+    opens_still g.L.Law.holds c.args.object _ _ _ c.in_ok-value.ensures.once c.set.ensures.still
+
+pub returns-clause-together : goal.returns-clause-together
+returns-clause-together g c = stood_still g.L.Law.holds _ _ c.set.ensures.still c.in_ok-value.ensures.together
+
+pub returns-clause-may : goal.returns-clause-may
+returns-clause-may g c =
+    let (map, may) = c.in_ok-value.ensures.may in (map, may_still g.L.Law.holds _ _ c.set.ensures.still map may)

@@ -4,7 +4,7 @@ use Rattle.dstm_cells.proofs.Waiting.{changes_on, looks_on, spends_on, stays_sam
 use Rattle.dstm_cells.proofs.under_way.Tx.look_on.Goals as goal
 
 pub loop-look-init : goal.loop-look-init
-loop-look-init g c = (stays_same c.args.self.now.attempts.caller, omega arith, refl)
+loop-look-init g c = (stays_same c.args.self.now.attempts.caller, omega arith, refl, refl)
 
 pub loop-look-preserved : goal.loop-look-preserved
 loop-look-preserved g c =
@@ -12,11 +12,12 @@ loop-look-preserved g c =
     let last = c.loop-look.self.attempts.caller in
     let new = c.look.new.self.caller in
     let look = c.look.ensures.same c.in-Same.is in
-    let (stays, looks, still) = c.loop-look.invariant in
+    let (stays, looks, still, kept) = c.loop-look.invariant in
     let (stays_on, one) = looks_on first last new c.clock-began.result stays look in (
       stays_on,
       omega (arith, looks, one),
       still_at last new c.clock-began.result (c.clock-began.ensures ∙ sym still) look ∙ still,
+      kept,
     )
 
 pub returns-in-Changed-clause-stays : goal.returns-in-Changed-clause-stays
@@ -58,3 +59,12 @@ returns-clause-follows g c =
       looks = omega (arith, looks, c.loop-look-test.false, c.loop-look.auto._look-end);
       still = c.loop-look.invariant.2;
     }
+
+pub returns-in-Changed-clause-looks : goal.returns-in-Changed-clause-looks
+returns-in-Changed-clause-looks g c = c.loop-look.invariant.3
+
+pub returns-in-Spent-clause-looks : goal.returns-in-Spent-clause-looks
+returns-in-Spent-clause-looks g c = c.loop-look.invariant.3
+
+pub returns-clause-looks : goal.returns-clause-looks
+returns-clause-looks g c = c.loop-look.invariant.3

@@ -9,3 +9,4 @@ invariant-loop-look g l =
     StaysLooking l.fn.self.attempts.caller l.self.attempts.caller
     × (looked l.self.attempts.caller ≡ looked l.fn.self.attempts.caller + l._look)
     × (clock l.self.attempts.caller ≡ clock l.fn.self.attempts.caller)
+    × (l.self.looks ≡ l.fn.self.looks)
