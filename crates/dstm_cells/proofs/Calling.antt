@@ -7,8 +7,8 @@ use Rattle.dstm_model.specs.declared.value.Val.{Val}
 use Rattle.dstm_tables.specs.declared.tables.Caller.{Caller}
 use Rattle.dstm_attempts.specs.Attempts.{Begins}
 use Rattle.dstm_cells.specs.declared.error.Stop.{Stop}
-use Rattle.dstm_cells.specs.Closures.{CalledAnew, KeepsEach, KeepsOnce}
-use Rattle.dstm_cells.specs.UnderWay.{AddsNothing, Keeps}
+use Rattle.dstm_cells.specs.Closures.{CalledFrom, KeepsEach, KeepsOnce}
+use Rattle.dstm_cells.specs.UnderWay.{Keeps}
 
 module _ {X F R : Type 0} where
   -- a call of an alternative
@@ -36,18 +36,15 @@ module _ {X F R : Type 0} where
   called_at g f n p q answer called = record { shown = p; shows = refl; left = q; called = called; leaves = refl }
 
   -- a call of a closure on an attempt that had just begun
-  abbrev pub called_anew : {L : Type 0} (caller : X → Caller L)
+  abbrev pub called_from : {L : Type 0} (caller : X → Caller L)
       (g : Mut F (MutBor X × Unit {0}) (Result R Stop × (MutBor X × Unit {0}))) (holds : L → List Val → Type 0)
-      (k : Caller L) (before : Caller L) (f n : F) (p q : MutBor X) (found answer : Result R Stop) →
-      AddsNothing k before → Begins holds before (caller p.now) → KeepsEach caller g →
-      Called g f (p, tt) (found, (q, tt)) n → found ≡ answer → CalledAnew caller g holds k answer
-  called_anew caller g holds k before f n p q found answer same begins keeps called is = record {
-    before = before;
-    same = same;
+      (k : Caller L) (f n : F) (p q : MutBor X) (found answer : Result R Stop) → Begins holds k (caller p.now) →
+      KeepsEach caller g → Called g f (p, tt) (found, (q, tt)) n → found ≡ answer → CalledFrom caller g holds k f answer n
+  called_from caller g holds k f n p q found answer begins keeps called is = record {
     began = p.now;
     begins = begins;
     ended = q.now;
-    called = (f, n, subst (λ r. CalledAtMut g f p.now r n q.now) is (called_at g f n p q found called));
+    call = subst (λ r. CalledAtMut g f p.now r n q.now) is (called_at g f n p q found called);
     keeps = keeps f n p.now q.now found (called_at g f n p q found called);
   }
 

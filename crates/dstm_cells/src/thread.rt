@@ -31,11 +31,11 @@ impl<X: Transaction> Part<X> {
         requires callable { F.IsAlwaysCallable f }
         requires lawful { IsLawful X.caller F.FnMut X.Rule.holds }
         ensures took { KeepsEach X.caller F.FnMut →
-            IfOk result (TookEffect X.caller F.FnMut X.Rule.holds (X.caller self.old.tx) (X.caller self.new.tx)) }
+            IfOk result (TookEffect X.caller F.FnMut X.Rule.holds X.patience (X.caller self.old.tx) f (X.caller self.new.tx)) }
         ensures nothing { KeepsEach X.caller F.FnMut →
             IfErr result (λ _. AddsNothing (X.caller self.old.tx) (X.caller self.new.tx)) }
         ensures why { KeepsEach X.caller F.FnMut →
-            IfErr result (GaveUpFor X.caller F.FnMut X.Rule.holds X.patience (X.caller self.old.tx) (X.caller self.new.tx)) }
+            IfErr result (GaveUpFor X.caller F.FnMut X.Rule.holds X.patience (X.caller self.old.tx) f (X.caller self.new.tx)) }
         ensures quit { IsQuit (X.caller self.old.tx) → IsQuit (X.caller self.new.tx) }
         ensures patience { KeepsPatience X.patience F.FnMut → X.patience self.new.tx ≡ X.patience self.old.tx }
     {

@@ -1,7 +1,7 @@
 // What makes the transactions of a thread, one after the other.
 ghost use Rattle.std.specs.Prelude.{◌++◌, ◌≡◌, ◌<◌, ℕ, List, [], true, false, length, IfErr, OnOk};
 ghost use Rattle.dstm_tables.specs.declared.tables.Caller.{Caller};
-ghost use Rattle.dstm_attempts.specs.Attempts.{AddsNothing, Begins, IsLost, IsQuit, IsSpent, Keeps, LeavesLawful, TakesEffect, attempts_of, renewed};
+ghost use Rattle.dstm_attempts.specs.Attempts.{AddsNothing, Begins, IsLost, IsQuit, IsSpent, Keeps, LeavesLawful, TakesEffect, attempts_of, begun, renewed};
 ghost use Rattle.dstm_cells.specs.Alternatives.{Noting, StopsUndoing, Undoes, noting, settings};
 ghost use Rattle.dstm_cells.specs.Attempts.{Follows, StaysFor};
 ghost use Rattle.dstm_cells.specs.declared.error.GaveUp.TheVariants.{Spent};
@@ -38,6 +38,7 @@ pub trait Transaction: Drop {
     fn begin(&mut self) -> Result<(), GaveUp>
         ensures begins { OnOk result (Begins Self.Rule.holds (caller self.old) (caller self.new)) }
         ensures spent { IfErr result (λ why. (why ≡ Spent) × IsSpent (caller self.new)) }
+        ensures none { IfErr result (λ _. begun (caller self.new) ≡ begun (caller self.old)) }
         ensures quit { IfErr result (λ _. IsQuit (caller self.new)) }
         ensures nothing { AddsNothing (caller self.old) (caller self.new) }
         ensures unnoted { ((noting self.new).notes ≡ false) × ((noting self.new).undos ≡ []) }

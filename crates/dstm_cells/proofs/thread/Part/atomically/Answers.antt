@@ -1,11 +1,12 @@
-use Rattle.std.proofs.Common.{◌≡◌, ◌≤◌, ◌∙◌, ap, arith, inl, inr, of_calls, refl, subst, sym}
+use Rattle.std.proofs.Common.{◌≡◌, ◌≤◌, ◌∙◌, ap, arith, inl, inr, of_calls, refl, subst, suc, sym, zero}
 use Rattle.std.specs.Fn.{CalledAtMut}
 use Rattle.dstm_tables.specs.declared.tables.Caller.{Caller}
 use Rattle.dstm_attempts.specs.Attempts.{AddsNothing, IsQuit, attempt, attempts_of, begun}
 use Rattle.dstm_cells.specs.Attempts.{StaysFor}
+use Rattle.dstm_cells.specs.Closures.{TriesOn}
 use Rattle.dstm_cells.specs.declared.thread.Part.{Part}
 use Rattle.dstm_attempts.proofs.UnderWay.{adds_nothing, begins_none, lost_quit, nothing_twice, renewed_quit, spent_at, takes_quit}
-use Rattle.dstm_cells.proofs.Calling.{called_anew, called_at, if_err, is_err}
+use Rattle.dstm_cells.proofs.Calling.{called_at, called_from, if_err, is_err}
 use Rattle.dstm_cells.proofs.Spending.{renewed_nothing, same_attempts}
 use Rattle.dstm_cells.proofs.Waiting.{kept_nothing, stop_nothing}
 use Rattle.dstm_cells.proofs.thread.Part.atomically.Goals as goal
@@ -22,8 +23,14 @@ commit-requires g c =
 
 pub returns-then-commit-clause-took : goal.returns-then-commit-clause-took
 returns-then-commit-clause-took g c keeps = record {
-  last = called_anew g.X.Transaction.caller g.F.FnMut _ _ (g.X.Transaction.caller c.loop-number.self.tx) c.loop-number.f
-      c.f.new.self _ _ _ _ (c.loop-number.invariant.1 keeps).0 c.in_ok-begin.ensures.begins keeps c.f.ensures c.in-Ok.is;
+  last = record {
+    before = g.X.Transaction.caller c.loop-number.self.tx;
+    reached = c.loop-number.f;
+    tried = (c.loop-number.invariant.1 keeps).0;
+    after = c.f.new.self;
+    on = called_from g.X.Transaction.caller g.F.FnMut _ _ c.loop-number.f c.f.new.self _ _ _ _ c.in_ok-begin.ensures.begins keeps
+        c.f.ensures c.in-Ok.is;
+  };
   takes = c.commit.ensures.takes c.if-commit.true;
 }
 
@@ -34,7 +41,7 @@ returns-in_err-leave-in-Err-clause-nothing g c keeps =
     let after = caller c.f.new.arg2 in
     if_err c.from_residual-in_err-leave-in-Err.result
     (nothing_twice (caller c.args.self.now.tx) (caller c.loop-number.self.tx) (caller c.leave.new.self)
-    (c.loop-number.invariant.1 keeps).0
+    (c.loop-number.invariant.1 keeps).0.nothing
     (nothing_twice (caller c.loop-number.self.tx) (caller c.begin.new.self) (caller c.leave.new.self) c.begin.ensures.nothing
     (nothing_twice (caller c.begin.new.self) after (caller c.leave.new.self)
     (adds_nothing (caller c.begin.new.self) after (keeps _ _ _ _ _ call))
@@ -46,23 +53,60 @@ returns-in_err-leave-in-Err-clause-why g c keeps =
     is_err c.from_residual-in_err-leave-in-Err.result why _ c.from_residual-in_err-leave-in-Err.ensures.1
     (inr (record {
       stop = c.in-Err.stop;
-      last = called_anew g.X.Transaction.caller g.F.FnMut _ _ (g.X.Transaction.caller c.loop-number.self.tx) c.loop-number.f
-          c.f.new.self _ _ _ _ (c.loop-number.invariant.1 keeps).0 c.in_ok-begin.ensures.begins keeps c.f.ensures c.in-Err.is;
+      last = record {
+        before = g.X.Transaction.caller c.loop-number.self.tx;
+        reached = c.loop-number.f;
+        tried = (c.loop-number.invariant.1 keeps).0;
+        after = c.f.new.self;
+        on = called_from g.X.Transaction.caller g.F.FnMut _ _ c.loop-number.f c.f.new.self _ _ _ _ c.in_ok-begin.ensures.begins
+            keeps c.f.ensures c.in-Err.is;
+      };
       follows = rw c.in_err-leave-in-Err.was at c.leave.ensures.follows;
+      leaves = c.leave.ensures.stays;
     }))
+
+pub returns-in_err-begin-clause-nothing : goal.returns-in_err-begin-clause-nothing
+returns-in_err-begin-clause-nothing g c keeps =
+    if_err c.from_residual.result
+    (nothing_twice (g.X.Transaction.caller c.args.self.now.tx) (g.X.Transaction.caller c.loop-number.self.tx)
+    (g.X.Transaction.caller c.begin.new.self) (c.loop-number.invariant.1 keeps).0.nothing c.begin.ensures.nothing)
+
+pub returns-clause-nothing : goal.returns-clause-nothing
+returns-clause-nothing g c keeps = (c.loop-number.invariant.1 keeps).0.nothing
 
 pub returns-clause-why : goal.returns-clause-why
 returns-clause-why g c keeps =
     let caller = g.X.Transaction.caller in
     let first = caller c.args.self.now.tx in
-    let (nothing, begun) = c.loop-number.invariant.1 keeps in
+    let (tried, begun) = c.loop-number.invariant.1 keeps in
     inl (
       refl,
-      spent_at (caller c.loop-number.self.tx) c.attempts-number-end.result
-          (c.attempts-number-end.ensures ∙ ap (λ (k : Caller _). attempts_of k) c.renew.ensures.caller ∙ same_attempts first _ (renewed_nothing first).home
-          ∙ sym (same_attempts first (caller c.loop-number.self.tx) nothing.home))
-          (omega (arith, begun, c.loop-number-test.false)),
+      record {
+        before = caller c.loop-number.self.tx;
+        reached = c.loop-number.f;
+        tried = tried;
+        none = refl;
+        spent = spent_at (caller c.loop-number.self.tx) c.attempts-number-end.result
+            (c.attempts-number-end.ensures ∙ ap (λ (k : Caller _). attempts_of k) c.renew.ensures.caller ∙ same_attempts first _ (renewed_nothing first).home
+            ∙ sym (same_attempts first (caller c.loop-number.self.tx) tried.nothing.home))
+            (omega (arith, begun, c.loop-number-test.false));
+      },
     )
+
+pub returns-in_err-begin-clause-why : goal.returns-in_err-begin-clause-why
+returns-in_err-begin-clause-why g c keeps =
+    let why = c.in_err-begin.field-0.0 in
+    is_err c.from_residual.result why _ c.from_residual.ensures.1
+    (inl (
+      c.in_err-begin.ensures.spent.0,
+      record {
+        before = g.X.Transaction.caller c.loop-number.self.tx;
+        reached = c.loop-number.f;
+        tried = (c.loop-number.invariant.1 keeps).0;
+        none = c.in_err-begin.ensures.none;
+        spent = c.in_err-begin.ensures.spent.1;
+      },
+    ))
 
 pub returns-then-commit-clause-quit : goal.returns-then-commit-clause-quit
 returns-then-commit-clause-quit g c quit = takes_quit g.X.Rule.Law.holds _ _ (c.commit.ensures.takes c.if-commit.true)
@@ -96,8 +140,12 @@ pub loop-number-init : goal.loop-number-init
 loop-number-init g c = (
   search of_calls,
   λ keeps. (
-    subst (λ (k : Caller _). AddsNothing (g.X.Transaction.caller c.args.self.now.tx) k) (sym c.renew.ensures.caller)
-        (renewed_nothing (g.X.Transaction.caller c.args.self.now.tx)),
+    record {
+      count = zero;
+      tries = (c.renew.ensures.caller, refl);
+      nothing = subst (λ (k : Caller _). AddsNothing (g.X.Transaction.caller c.args.self.now.tx) k) (sym c.renew.ensures.caller)
+          (renewed_nothing (g.X.Transaction.caller c.args.self.now.tx));
+    },
     omega arith,
   ),
   λ quit. subst IsQuit (sym c.renew.ensures.caller) (renewed_quit (g.X.Transaction.caller c.args.self.now.tx) quit),
@@ -111,11 +159,22 @@ loop-number-preserved g c = (
       let caller = g.X.Transaction.caller in
       let call = called_at g.F.FnMut c.loop-number.f c.f.new.self _ _ _ c.f.ensures in
       let called = keeps _ _ _ _ _ call in
-      let (nothing, begun_so_far) = c.loop-number.invariant.1 keeps in
+      let (tried, begun_so_far) = c.loop-number.invariant.1 keeps in
       let began =
       nothing_twice (caller c.args.self.now.tx) (caller c.loop-number.self.tx) (caller c.begin.new.self)
-      nothing c.begin.ensures.nothing in
+      tried.nothing c.begin.ensures.nothing in
       let after = caller c.f.new.arg2 in
+      let next : TriesOn caller g.F.FnMut g.X.Rule.Law.holds g.X.Transaction.patience c.f.result c.f.new.arg2 (caller c.match-f.self.tx) =
+      elim c.match-f.branch [
+        | in-Ok+else-commit w ↦
+            subst (λ (p : Part _). TriesOn caller g.F.FnMut g.X.Rule.Law.holds g.X.Transaction.patience c.f.result c.f.new.arg2 (caller p.tx)) (sym w.self-is)
+            (subst (λ r. TriesOn caller g.F.FnMut g.X.Rule.Law.holds g.X.Transaction.patience r c.f.new.arg2 (caller w.commit.new.self)) (sym w.in-Ok.is)
+            (w.commit.ensures.keeps w.if-commit.false, w.commit.ensures.lost w.if-commit.false))
+        | in-Err+in_ok-leave-in-Err w ↦
+            subst (λ (p : Part _). TriesOn caller g.F.FnMut g.X.Rule.Law.holds g.X.Transaction.patience c.f.result c.f.new.arg2 (caller p.tx)) (sym w.self-is)
+            (subst (λ r. TriesOn caller g.F.FnMut g.X.Rule.Law.holds g.X.Transaction.patience r c.f.new.arg2 (caller w.leave.new.self)) (sym w.in-Err.is)
+            (w.leave.ensures.stays, rw w.in_ok-leave-in-Err.was at w.leave.ensures.follows))
+      ] in
       let left : AddsNothing after (caller c.match-f.self.tx) × (begun after ≤ begun (caller c.match-f.self.tx)) =
       elim c.match-f.branch [
         | in-Ok+else-commit w ↦
@@ -128,9 +187,22 @@ loop-number-preserved g c = (
       let same = begins_none (caller c.begin.new.self) after called in
       let one_more = c.in_ok-begin.ensures.begins.begun in
       let no_less = left.1 in (
-        nothing_twice (caller c.args.self.now.tx) after (caller c.match-f.self.tx)
-            (nothing_twice (caller c.args.self.now.tx) (caller c.begin.new.self) after began
-            (adds_nothing (caller c.begin.new.self) after called)) left.0,
+        record {
+          count = suc tried.count;
+          tries = (
+            caller c.loop-number.self.tx,
+            c.loop-number.f,
+            tried.tries,
+            record {
+              answer = c.f.result;
+              on = called_from caller g.F.FnMut _ _ c.loop-number.f c.f.new.self _ _ _ _ c.in_ok-begin.ensures.begins keeps c.f.ensures refl;
+              next = next;
+            },
+          );
+          nothing = nothing_twice (caller c.args.self.now.tx) after (caller c.match-f.self.tx)
+              (nothing_twice (caller c.args.self.now.tx) (caller c.begin.new.self) after began
+              (adds_nothing (caller c.begin.new.self) after called)) left.0;
+        },
         omega (arith, one_more, begun_so_far, same, no_less),
       ),
   λ quit.

@@ -1,6 +1,6 @@
 use Rattle.std.proofs.Common.{◌≡◌, ◌≤◌}
-use Rattle.dstm_attempts.specs.Attempts.{AddsNothing, IsQuit, begun}
-use Rattle.dstm_cells.specs.Closures.{KeepsEach, KeepsPatience}
+use Rattle.dstm_attempts.specs.Attempts.{IsQuit, begun}
+use Rattle.dstm_cells.specs.Closures.{KeepsEach, KeepsPatience, TriedInVain}
 use Rattle.dstm_cells.proofs.thread.Part.atomically.Given as goal
 
 -- nothing was committed so far, and each call was on an attempt of its own
@@ -8,7 +8,8 @@ abbrev pub invariant-loop-number : goal.invariant-loop-number
 invariant-loop-number g l =
     goal.F-IsAlwaysCallable g l.f
     × (KeepsEach g.X.Transaction.caller g.F.FnMut →
-    AddsNothing (g.X.Transaction.caller l.fn.self.tx) (g.X.Transaction.caller l.self.tx)
+    TriedInVain g.X.Transaction.caller g.F.FnMut g.X.Rule.Law.holds g.X.Transaction.patience (g.X.Transaction.caller l.fn.self.tx) l.fn.f
+    (g.X.Transaction.caller l.self.tx) l.f
     × (l._number ≤ begun (g.X.Transaction.caller l.self.tx)))
     × (IsQuit (g.X.Transaction.caller l.fn.self.tx) → IsQuit (g.X.Transaction.caller l.self.tx))
     × (KeepsPatience g.X.Transaction.patience g.F.FnMut →
