@@ -12,7 +12,9 @@ use Rattle.dstm_model.specs.declared.value.Law.{Ghosts}
 use Rattle.dstm_model.specs.declared.value.Val.{Val}
 use Rattle.dstm_engine.specs.Tables as dstm
 use Rattle.dstm_tl2_engine.specs.Tables as tl2
+use Rattle.dstm_tables.specs.Engines.{WorksBy}
 use Rattle.dstm_tables.specs.Founders.{Enrols, made_of}
+use Rattle.dstm_tables.specs.declared.engine.Engine.{Engine}
 use Rattle.dstm_tables.specs.declared.founding.Founder.{Founder}
 use Rattle.dstm_tables.specs.declared.founding.Founder.TheVariants as founder
 use Rattle.dstm_tables.specs.declared.tables.Caller.{Caller}
@@ -95,22 +97,24 @@ module _ {L : Type 0} {ghosts : Ghosts L} (seats : List (Seat L ghosts)) where
     told unread (Ok x) well first = (all_ended well, tt)
     told unread (Err why) well first = (tt, first_ended unread why first)
 
-module _ {L : Type 0} (holds : L → List Val → Type 0) {rule : L} {before : List Val} {table : Table L} {f : Founder L} (g : Founder L)
-    (caller : Caller L) (founds : Founds rule before table f) (enrols : Enrols holds f g 0 caller) where
-  on_its_table : {ended : Founder L → Founder L → Type 0} → ended f g → OnItsTable holds rule before ended
+module _ {L : Type 0} (holds : L → List Val → Type 0) {engine : Engine} {rule : L} {before : List Val} {table : Table L} {f : Founder L}
+    (g : Founder L) (caller : Caller L) (founds : Founds rule before table f) (works : WorksBy engine table)
+    (enrols : Enrols holds f g 0 caller) where
+  on_its_table : {ended : Founder L → Founder L → Type 0} → ended f g → OnItsTable holds engine rule before ended
   on_its_table {ended} ends = record {
     table = table;
     starts = founds.starts;
+    works = works;
     left = g;
     ends = subst (λ new. ended new g) founds.founder ends;
   }
 
   -- what a run has left whose values were read by a last caller
-  pub has_left : {after : List Val} → ReadsAll holds caller after → Ran holds rule before after
+  pub has_left : {after : List Val} → ReadsAll holds caller after → Ran holds engine rule before after
   has_left reads = on_its_table (record { caller = caller; enrols = enrols; reads = reads })
 
   -- what has become of a run whose last caller could not read them
-  pub was_unread : {after : Caller L} → CouldNotRead 64 caller after → WasUnread holds rule before
+  pub was_unread : {after : Caller L} → CouldNotRead 64 caller after → WasUnread holds engine rule before
   was_unread {after} unread = on_its_table (record { caller = caller; enrols = enrols; after = after; unread = unread })
 
 -- why a run failed whose values were not taken

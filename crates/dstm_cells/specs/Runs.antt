@@ -5,7 +5,9 @@ use Rattle.std.specs.Fn.{Shared}
 use Rattle.dstm_model.specs.declared.value.Law.{Ghosts}
 use Rattle.dstm_model.specs.declared.value.Val.{Val}
 use Rattle.dstm_tables.specs.Callers.{home_of}
+use Rattle.dstm_tables.specs.Engines.{WorksBy}
 use Rattle.dstm_tables.specs.Founders.{Enrols, founded}
+use Rattle.dstm_tables.specs.declared.engine.Engine.{Engine}
 use Rattle.dstm_tables.specs.declared.founding.Founder.{Founder}
 use Rattle.dstm_tables.specs.declared.tables.Caller.{Caller}
 use Rattle.dstm_tables.specs.declared.tables.Table.{Table}
@@ -71,21 +73,23 @@ module _ {L : Type 0} where
         (number : ℕ) (other : Seat L ghosts) → number < length seats →
         IsNew table number (slice_index_or seats number other).me.tx.attempts.caller
 
-    -- of a table that was made of these values this holds: of its founder, with nobody on it yet, and of what became of it
-    pub record OnItsTable (rule : L) (before : List Val) (ended : Founder L → Founder L → Type 0) : Type 0 where
+    -- of a table that was made of these values, and works by this engine, this holds: of its founder, with nobody on it yet,
+    -- and of what became of it
+    pub record OnItsTable (engine : Engine) (rule : L) (before : List Val) (ended : Founder L → Founder L → Type 0) : Type 0 where
       pub table : Table L
       pub starts : Starts rule before table
+      pub works : WorksBy engine table
       pub left : Founder L
       pub ends : ended (founded table) left
 
     -- WHAT A RUN HAS LEFT: these values, that the objects of its table had together at the place of a last transaction;
-    -- the table was made of the values before
-    abbrev pub Ran : L → (before after : List Val) → Type 0
-    Ran rule before after = OnItsTable rule before (λ new left. Takes holds new left after)
+    -- the table was made of the values before, and works by this engine
+    abbrev pub Ran : Engine → L → (before after : List Val) → Type 0
+    Ran engine rule before after = OnItsTable engine rule before (λ new left. Takes holds new left after)
 
     -- A RUN WAS UNREAD: a last caller of its table, which was made of the values before, could not read all objects
-    abbrev pub WasUnread : L → (before : List Val) → Type 0
-    WasUnread rule before = OnItsTable rule before (LeavesUnread holds)
+    abbrev pub WasUnread : Engine → L → (before : List Val) → Type 0
+    WasUnread engine rule before = OnItsTable engine rule before (LeavesUnread holds)
 
 module _ {S F R : Type 0} (g : Shared F (MutBor S × (ℕ × Unit {0})) (R × (MutBor S × Unit {0}))) (f : F) where
   -- a call of a closure on a thread's part, with its number, answered this, and left that
@@ -98,11 +102,13 @@ module _ {S F R : Type 0} (g : Shared F (MutBor S × (ℕ × Unit {0})) (R × (M
 
 module _ {L F : Type 0} {ghosts : Ghosts L} (holds : L → List Val → Type 0)
     (g : Shared F (MutBor (Part (Tx L ghosts)) × (ℕ × Unit {0})) (End × (MutBor (Part (Tx L ghosts)) × Unit {0}))) (f : F)
-    (rule : L) (values : List Val) where
-  -- THE CLOSURE WAS CALLED with this number and answered this, on a new part of a table that was made of these values
+    (engine : Engine) (rule : L) (values : List Val) where
+  -- THE CLOSURE WAS CALLED with this number and answered this, on a new part of a table that was made of these values and
+  -- works by this engine
   pub record CalledFor (number : ℕ) (end : End) : Type 0 where
     pub table : Table L
     pub starts : Starts rule values table
+    pub works : WorksBy engine table
     pub began : Part (Tx L ghosts)
     pub new : IsNew holds table number began.tx.attempts.caller
     pub ended : Part (Tx L ghosts)

@@ -278,8 +278,8 @@ impl<L: Law + Copy + Sync> Memory<L> {
         ensures refused { (threads ≡ 0) ⊎ (63 < threads) → (result ≡ Err failed.Threads) × (self.new ≡ self.old) }
         ensures ended { OnOk result ((number : ℕ) → number < threads → W.ends work.now number (Ok tt)) }
         ensures fails { IfErr result (FailsFor (W.ends work.now)
-            (WasUnread L.holds self.old.law self.old.values.items) threads) }
-        ensures left { LeavesBy (Ran L.holds self.old.law self.old.values.items self.new.values.items) (self.new ≡ self.old) result }
+            (WasUnread L.holds self.old.engine self.old.law self.old.values.items) threads) }
+        ensures left { LeavesBy (Ran L.holds self.old.engine self.old.law self.old.values.items self.new.values.items) (self.new ≡ self.old) result }
     {
         let (table, mut founder) = self.found(threads)?;
         let mut last = self.part(&table, &mut founder, 0)?;
@@ -309,11 +309,11 @@ impl Memory {
         ensures threads { OnOk result ((1 ≤ threads) × (threads ≤ 63)) }
         ensures refused { (threads ≡ 0) ⊎ (63 < threads) → (result ≡ Err failed.Threads) × (self.new ≡ self.old) }
         ensures called { OnOk result ((number : ℕ) → number < threads
-            → CalledFor ⟦<AnyLaw as Law>⟧.holds F.Fn f self.old.law self.old.values.items number (Ok tt)) }
+            → CalledFor ⟦<AnyLaw as Law>⟧.holds F.Fn f self.old.engine self.old.law self.old.values.items number (Ok tt)) }
         ensures fails { IfErr result (FailsFor
-            (CalledFor ⟦<AnyLaw as Law>⟧.holds F.Fn f self.old.law self.old.values.items)
-            (WasUnread ⟦<AnyLaw as Law>⟧.holds self.old.law self.old.values.items) threads) }
-        ensures left { LeavesBy (Ran ⟦<AnyLaw as Law>⟧.holds self.old.law self.old.values.items self.new.values.items)
+            (CalledFor ⟦<AnyLaw as Law>⟧.holds F.Fn f self.old.engine self.old.law self.old.values.items)
+            (WasUnread ⟦<AnyLaw as Law>⟧.holds self.old.engine self.old.law self.old.values.items) threads) }
+        ensures left { LeavesBy (Ran ⟦<AnyLaw as Law>⟧.holds self.old.engine self.old.law self.old.values.items self.new.values.items)
             (self.new ≡ self.old) result }
     {
         let (table, mut founder) = self.found(threads)?;

@@ -24,7 +24,7 @@ seats_left g c =
 
 -- what is known of the thread of a number that has ended so
 abbrev called : (g : Over) (c : After-how_all_ended g) → ℕ → End → Type 0
-called g c = CalledFor TheLaw.holds-value.it g.F.Fn c.args.f c.args.self.now.law c.args.self.now.values.items
+called g c = CalledFor TheLaw.holds-value.it g.F.Fn c.args.f c.args.self.now.engine c.args.self.now.law c.args.self.now.values.items
 
 -- the closure was called with each number, and has ended as its seat tells
 ended : (g : Over) (c : After-how_all_ended g) (other : Seat _ _) (number : ℕ) → number < c.args.threads →
@@ -37,6 +37,7 @@ ended g c other number below =
     record {
       table = c.in_ok-table.table;
       starts = c.in_ok-table.ensures.founds.starts;
+      works = c.in_ok-table.ensures.engine;
       began = change.argument.now.me;
       new = subst (λ (seat : Seat _ _). IsNew TheLaw.holds-value.it c.in_ok-table.table number seat.me.tx.attempts.caller)
           (sym (change.argument_is ∙ ap (λ (xs : List _). slice_index_or xs number other) c.deref_mut.ensures.value)) new;
@@ -63,7 +64,7 @@ returns-clause-fails g c = (tells g (goal.at.returns-clause-fails g c).After-how
 pub returns-clause-left : goal.returns-clause-left
 returns-clause-left g c =
     ran_leaves c.deref.result.now _ _ c.how_all_ended.result c.how_all_ended.ensures.first
-    (has_left TheLaw.holds-value.it c.part.new.founder c.in_ok-last.last.tx.attempts.caller c.in_ok-table.ensures.founds
+    (has_left TheLaw.holds-value.it c.part.new.founder c.in_ok-last.last.tx.attempts.caller c.in_ok-table.ensures.founds c.in_ok-table.ensures.engine
     c.in_ok-last.ensures.enrols c.in_ok-take_by.ensures.reads)
 
 pub returns-in_err-take_by-clause-fails : goal.returns-in_err-take_by-clause-fails
@@ -71,6 +72,6 @@ returns-in_err-take_by-clause-fails g c =
     let why = c.in_err-take_by.field-0.0 in
     is_err c.from_residual-in_err-take_by.result why (FailsFor _ _ c.args.threads) c.from_residual-in_err-take_by.ensures.1
     (untaken _ _ c.args.threads why c.in_err-take_by.ensures.fails.1 (λ unread.
-    was_unread TheLaw.holds-value.it c.part.new.founder c.in_ok-last.last.tx.attempts.caller c.in_ok-table.ensures.founds
+    was_unread TheLaw.holds-value.it c.part.new.founder c.in_ok-last.last.tx.attempts.caller c.in_ok-table.ensures.founds c.in_ok-table.ensures.engine
     c.in_ok-last.ensures.enrols
     (c.in_err-take_by.ensures.unread (ap Err unread))))

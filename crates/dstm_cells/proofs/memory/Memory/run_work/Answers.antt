@@ -46,7 +46,7 @@ returns-clause-fails g c = (tells g (goal.at.returns-clause-fails g c).After-how
 pub returns-clause-left : goal.returns-clause-left
 returns-clause-left g c =
     ran_leaves c.deref.result.now _ _ c.how_all_ended.result c.how_all_ended.ensures.first
-    (has_left g.L.Law.holds c.part.new.founder c.in_ok-last.last.tx.attempts.caller c.in_ok-table.ensures.founds
+    (has_left g.L.Law.holds c.part.new.founder c.in_ok-last.last.tx.attempts.caller c.in_ok-table.ensures.founds c.in_ok-table.ensures.engine
     c.in_ok-last.ensures.enrols c.in_ok-take_by.ensures.reads)
 
 pub returns-in_err-take_by-clause-fails : goal.returns-in_err-take_by-clause-fails
@@ -54,6 +54,6 @@ returns-in_err-take_by-clause-fails g c =
     let why = c.in_err-take_by.field-0.0 in
     is_err c.from_residual-in_err-take_by.result why (FailsFor _ _ c.args.threads) c.from_residual-in_err-take_by.ensures.1
     (untaken _ _ c.args.threads why c.in_err-take_by.ensures.fails.1 (λ unread.
-    was_unread g.L.Law.holds c.part.new.founder c.in_ok-last.last.tx.attempts.caller c.in_ok-table.ensures.founds
+    was_unread g.L.Law.holds c.part.new.founder c.in_ok-last.last.tx.attempts.caller c.in_ok-table.ensures.founds c.in_ok-table.ensures.engine
     c.in_ok-last.ensures.enrols
     (c.in_err-take_by.ensures.unread (ap Err unread))))
