@@ -1,0 +1,5 @@
+pub mod Circles
+pub mod Effects
+pub mod Noting
+pub mod Queues
+pub mod Stopping

@@ -1,0 +1,23 @@
+-- What a call on a structure does in an attempt, and why it stops.
+use Rattle.std.specs.Prelude.{◌≡◌, ℕ, ◌<◌, ◌≤◌, Bool, true, List}
+use Rattle.dstm_model.specs.declared.value.Val.{Val}
+use Rattle.dstm_tables.specs.declared.tables.Caller.{Caller}
+use Rattle.dstm_attempts.specs.Attempts.{objects_of}
+use Rattle.dstm_cells.specs.UnderWay.{MayBegin, seen}
+use Rattle.dstm_cells.specs.declared.error.Why.{Why}
+use Rattle.dstm_cells.specs.declared.error.Why.TheVariants.{Again, Retry, Foreign, Memory}
+
+module _ {L : Type 0} where
+  -- why a call on a structure within so many objects stops: it never retries, no object is foreign where the run's memory
+  -- has them, and it wants memory only where it is to note what it sets
+  abbrev pub Stops : (objects : ℕ) (notes : Bool) → Caller L → Why → Type 0
+  Stops objects notes k Again = Unit {0}
+  Stops objects notes k Retry = ⊥
+  Stops objects notes k Foreign = objects_of k < objects
+  Stops objects notes k Memory = notes ≡ true
+
+  module _ (holds : L → List Val → Type 0) where
+    -- THIS WAS DONE, whatever values the attempt stands at, where the run's memory has so many objects
+    pub record Does (objects : ℕ) (effect : List Val → List Val → Type 0) (old new : Caller L) : Type 0 where
+      pub narrows : (map : List Val) → MayBegin holds new map → MayBegin holds old map
+      pub does : objects ≤ objects_of old → (map : List Val) → MayBegin holds new map → effect (seen old map) (seen new map)

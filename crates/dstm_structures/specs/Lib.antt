@@ -1,0 +1,3 @@
+pub mod Circles
+pub mod Effects
+pub mod Queues

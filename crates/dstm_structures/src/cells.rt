@@ -1,0 +1,41 @@
+// Cells by their numbers.
+ghost use Rattle.std.specs.Prelude.{◌≡◌, ◌+◌, ◌<◌, ◌≤◌};
+ghost use Rattle.dstm_structures.specs.Circles.{next};
+
+use dstm_cells::{Cell, Word};
+use dstm_model::Val;
+
+// The cells of a queue: the number of the one that holds the place of the first value and how many there are, behind which
+// stand the places, and how many places there are.
+#[derive(Clone, Copy)]
+pub struct Ring {
+    pub(crate) first: u32,
+    pub(crate) capacity: u32,
+    ghost few: { first + 1 + capacity ≤ 524288 },
+}
+
+// The cell of this number.
+pub(crate) fn cell<T: Word>(number: u32) -> Cell<T>
+    ensures { result.object ≡ number }
+{
+    Cell::of_val(Val {
+        low: u64::from(number),
+        high: 0,
+    })
+}
+
+// The number of a cell.
+pub(crate) fn number<T: Word>(cell: Cell<T>) -> u32
+    ensures { result ≡ cell.object }
+{
+    let val = cell.to_val();
+    (val.low % 4_294_967_296) as u32
+}
+
+// The place behind this one of so many, in a circle.
+pub(crate) fn next(places: u32, at: u32) -> u32
+    requires { at < places }
+    ensures { result ≡ next places at }
+{
+    if at + 1 < places { at + 1 } else { 0 }
+}
