@@ -3,7 +3,8 @@
 
     python3 c/make.py                   leaves libdstm.a, libdstm.so.1 and dstm.pc in c/out, and runs all tests
     python3 c/make.py --prefix FOLDER   and installs them, and dstm.h, below that folder
-    python3 c/make.py --quiet           says only what failed, what was skipped, and how many passed
+    python3 c/make.py --quiet           says only what failed, what was skipped, and how many passed; and leaves out what
+                                        another version of a tool may see otherwise: whether clippy has a warning
     python3 c/make.py --bench           and measures the library beside a mutex and beside gcc's transactional memory
     python3 c/make.py --behind-rt-ci    takes the libraries that rt ci has just proved and left as they are
     python3 c/make.py --archive FILE    builds and tests with this archive of the exports, and proves nothing
@@ -11,6 +12,7 @@
 A test whose tool is missing is skipped, and the tool is named. The last line is 'N passed, M failed, K skipped'."""
 import argparse
 import contextlib
+import functools
 import importlib.machinery
 import importlib.util
 import os
@@ -28,7 +30,15 @@ ROOT = os.path.dirname(HERE)
 OUT = f"{HERE}/out"
 HEADER = f"{HERE}/include/dstm.h"
 EXPORTS = f"{ROOT}/crates/dstm_c/src/exports.rt"
-TESTS = ("counter", "bank", "queue", "alternatives", "parts", "misuse")
+TESTS = ("counter", "bank", "queue", "alternatives", "parts", "misuse", "refused")
+# By which engines a test runs where it takes long; where none is named it runs by all of them.
+BOTH = ("tl2", "polka")
+# The tests that have threads.
+THREADED = ("counter", "bank", "queue")
+# What a test is built with besides.
+LINKED = {"refused": ("-Wl,--wrap=malloc,--wrap=realloc,--wrap=free",)}
+# A command that has not ended after so many seconds never will, however slow the machine.
+LONG = 3600
 WARNINGS = ("-Wall", "-Wextra", "-pedantic", "-Werror")
 # What the archive may want of a program that it is linked with.
 WANTED = {"free", "malloc", "realloc", "memcpy", "memmove", "memset"}
@@ -61,9 +71,25 @@ def tool(name):
     return found
 
 
+@functools.cache
+def works(compiler, *how, by=()):
+    """A compiler makes a program with a thread that runs here, by this one."""
+    language = "c++" if compiler.endswith("++") else "c"
+    trial = "#include <pthread.h>\n#include <stdlib.h>\nstatic void *f(void *it) { free(it); return 0; }\n"
+    trial += "int main(void) { pthread_t t; return pthread_create(&t, 0, f, malloc(9)) || pthread_join(t, 0); }\n"
+    with tempfile.TemporaryDirectory(prefix="dstm-c-") as room:
+        words = [compiler, *how, "-x", language, "-", "-o", f"{room}/trial", "-lpthread"]
+        try:
+            call(words, input=trial, stdin=None)
+            call([*by, f"{room}/trial"])
+        except (Failed, OSError):
+            return False
+    return True
+
+
 def call(words, **how):
     """Runs a command, and returns what it wrote; where it fails, that is the failure's text."""
-    how = {"stdin": subprocess.DEVNULL, "timeout": 900, **how}
+    how = {"stdin": subprocess.DEVNULL, "timeout": LONG, **how}
     how = {"stdout": subprocess.PIPE, "stderr": subprocess.STDOUT, "text": True, **how}
     try:
         ran = subprocess.run([str(it) for it in words], **how)
@@ -171,9 +197,16 @@ def shared():
 
 def c_compiler():
     for name in (os.environ.get("CC", "cc"), "gcc", "clang"):
-        if shutil.which(name):
+        if shutil.which(name) and works(name):
             return name
     raise Missing("C compiler")
+
+
+def compiler_for(name):
+    """Returns a compiler by its name, where it works here."""
+    if not works(tool(name)):
+        raise Missing(f"{name} that works")
+    return name
 
 
 def declared():
@@ -223,26 +256,51 @@ def headers():
     taken = [("gcc", "c", "c99"), ("gcc", "c", "c11"), ("clang", "c", "c99"), ("clang", "c", "c11")]
     for compiler, language, standard in [*taken, ("g++", "c++", "c++17"), ("clang++", "c++", "c++17")]:
         words = [f"-std={standard}", "-x", language, *WARNINGS, f"-I{HERE}/include", "-fsyntax-only", "-"]
-        check = lambda by=compiler, words=words: call([tool(by), *words], input=uses, stdin=None)
+        check = lambda by=compiler, words=words: call([compiler_for(by), *words], input=uses, stdin=None)
         checks[f"dstm.h as {standard} by {compiler}"] = check
     return checks
 
 
-def build_test(name, compiler, room):
-    words = [compiler, "-std=c99", "-O2", *WARNINGS, f"-I{HERE}/include", "-o", f"{room}/{name}"]
-    call([*words, f"{HERE}/tests/{name}.c", f"{OUT}/libdstm.a", "-lpthread"])
+def build_test(name, compiler, room, *how):
+    words = [compiler, "-std=c99", "-O2", *how, *WARNINGS, f"-I{HERE}/include", "-o", f"{room}/{name}"]
+    call([*words, f"{HERE}/tests/{name}.c", f"{OUT}/libdstm.a", *LINKED.get(name, ()), "-lpthread"])
     return f"{room}/{name}"
 
 
 def run_test(name, room):
-    call([build_test(name, c_compiler(), room)], timeout=300)
+    call([build_test(name, c_compiler(), room)])
+
+
+def million(room):
+    """Four threads make a million transactions each, by one part each, as TL2 lets them."""
+    call([build_test("counter", c_compiler(), room), "tl2", "1000000"])
+
+
+def by_valgrind(*more):
+    """Returns the words that run a program under valgrind."""
+    words = (tool("valgrind"), "-q", "--fair-sched=yes", "--error-exitcode=9", *more)
+    if not works(c_compiler(), by=words):
+        raise Missing("valgrind that works")
+    return words
 
 
 def valgrind(name, room):
-    tool("valgrind")
+    by = by_valgrind("--leak-check=full")
     program = build_test(name, c_compiler(), room)
-    for engine in ("tl2", "polka"):
-        call(["valgrind", "-q", "--leak-check=full", "--error-exitcode=9", program, engine], timeout=600)
+    for engine in BOTH:
+        call([*by, program, engine])
+
+
+def sanitized(compiler, kind, room):
+    """Runs tests under a sanitizer of a compiler. It sees what the tests and the header do, and each block that the
+    library takes; the library's own loads and stores it does not see."""
+    how = (f"-fsanitize={kind}", "-g")
+    if not works(compiler_for(compiler), *how):
+        raise Missing(f"{kind} sanitizer of {compiler} that works")
+    for name in THREADED if kind == "thread" else TESTS:
+        program = build_test(name, compiler, room, *how)
+        for engine in BOTH[: 1 if name == "refused" else 2]:
+            call([program, engine])
 
 
 def python():
@@ -252,11 +310,52 @@ def python():
             raise Failed(f"it says {said}")
 
 
-def rust(room):
-    tool("cargo")
+def cargo(*words):
+    """Returns the words that call cargo, where it works here."""
+    ran = subprocess.run([tool("cargo"), *words, "--version"], stdin=subprocess.DEVNULL, capture_output=True)
+    if ran.returncode:
+        raise Missing(" ".join(["cargo", *words]) + " that works")
+    return ["cargo", *words]
+
+
+def rust(room, *words, **more):
+    """Runs the tests of the crate for Rust."""
+    c_compiler()
+    how = {**os.environ, "DSTM_LIB": OUT, "CARGO_TARGET_DIR": f"{room}/target", **more}
+    toolchain, rest = [it for it in words if it[0] == "+"], [it for it in words if it[0] != "+"]
+    said = call([*cargo(*toolchain), "test", "--offline", "--quiet", *rest], cwd=f"{HERE}/rust", env=how)
+    return ", ".join(re.findall(r"([1-9]\d* passed)", said))
+
+
+def rust_valgrind(room):
+    """Runs them under valgrind, but the one that makes very many transactions."""
+    words = ("--release", "--test", "all", "--", "--skip", "a_part_of_tl2_has_no_end")
+    return rust(room, *words, CARGO_TARGET_X86_64_UNKNOWN_LINUX_GNU_RUNNER=" ".join(by_valgrind()))
+
+
+def rust_sanitized(room):
+    """Runs them under rustc's address sanitizer, which a nightly compiler has. Its thread sanitizer wants a std that is
+    built with it."""
+    target, flags = "x86_64-unknown-linux-gnu", "-Zsanitizer=address"
+    cargo("+nightly")
+    words = ["rustc", "+nightly", flags, "--test", "--target", target, "-", "-o", f"{room}/trial"]
+    try:
+        call(words, input="#[test]\nfn runs() {}\n", stdin=None)
+        call([f"{room}/trial"])
+    except (Failed, OSError):
+        raise Missing("address sanitizer of rustc that works") from None
+    more = {"RUSTFLAGS": flags, "RUSTDOCFLAGS": flags, "CARGO_BUILD_TARGET": target}
+    return rust(room, "+nightly", **more)
+
+
+def rust_clean(room):
+    """The crate gives no warning, to the compiler, to clippy and to rustdoc."""
+    c_compiler()
+    cargo("clippy")
     how = {**os.environ, "DSTM_LIB": OUT, "CARGO_TARGET_DIR": f"{room}/target"}
-    said = call(["cargo", "test", "--offline", "--quiet"], cwd=f"{HERE}/rust", env=how)
-    return ", ".join(re.findall(r"(\d+ passed)", said))
+    how = {**how, "RUSTDOCFLAGS": "-D warnings", "RUSTFLAGS": "-D warnings"}
+    for words in (["clippy", "--all-targets"], ["doc"]):
+        call(["cargo", *words, "--offline", "--quiet"], cwd=f"{HERE}/rust", env=how)
 
 
 def install(prefix):
@@ -308,6 +407,8 @@ def main():
     said.add_argument("--behind-rt-ci", action="store_true")
     said.add_argument("--archive")
     args = said.parse_args()
+    # Else glibc gives the words of each table back to the system, and takes new ones for the next.
+    os.environ.update(MALLOC_MMAP_THRESHOLD_="30000000", MALLOC_TRIM_THRESHOLD_="1000000000")
     steps, made = Steps(args.quiet), {}
     os.makedirs(OUT, exist_ok=True)
     if args.archive:
@@ -321,12 +422,23 @@ def main():
                 steps.step(name, lambda check=check: check() and None)
             for name in TESTS:
                 steps.step(f"{name}.c", lambda name=name: run_test(name, room))
-            steps.step("alternatives.c under valgrind", lambda: valgrind("alternatives", room))
-            steps.step("parts.c under valgrind", lambda: valgrind("parts", room))
+            steps.step("counter.c with 4,000,000 transactions", lambda: million(room))
+            for name in TESTS[:-1]:
+                steps.step(f"{name}.c under valgrind", lambda name=name: valgrind(name, room))
+            for compiler in ("gcc", "clang"):
+                for kind in ("address", "thread"):
+                    name = f"C tests under the {kind} sanitizer of {compiler}"
+                    steps.step(name, lambda compiler=compiler, kind=kind: sanitized(compiler, kind, room))
             if steps.step("libdstm.so", shared):
                 steps.step("counter.py", python)
                 steps.step("counter.c as installed", lambda: by_pkg_config(room))
-            steps.step("the crate dstm for Rust", lambda: rust(room))
+            if steps.step("the crate dstm for Rust", lambda: rust(room)):
+                ignored = ("--release", "--test", "all", "--", "--ignored")
+                steps.step("the crate dstm with 4,000,000 transactions", lambda: rust(room, *ignored))
+                if not args.quiet:
+                    steps.step("the crate dstm without a warning", lambda: rust_clean(room))
+                steps.step("the crate dstm under valgrind", lambda: rust_valgrind(room))
+                steps.step("the crate dstm under the address sanitizer", lambda: rust_sanitized(room))
             with open(f"{OUT}/dstm.pc", "w", encoding="utf-8") as it:
                 it.write(PC.format(prefix="/usr/local", version=".".join(map(str, NUMBERS))))
             if args.prefix:

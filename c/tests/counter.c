@@ -1,15 +1,15 @@
-/* Four threads add to a counter, each 10,000 times: 40,000. */
+/* Four threads add to a counter, each 10,000 times: 40,000. Behind an engine the program may be told how often. */
 #include "common.h"
 
 #define THREADS 4
-#define EACH 10000
+static int each = 10000;
 static dstm_thread parts[THREADS];
 static dstm_cell counter;
 
 static void *work(void *arg) {
     dstm_thread *me = arg;
     int i;
-    for (i = 0; i < EACH; i++) {
+    for (i = 0; i < each; i++) {
         dstm_code code;
         do {
             uint64_t n = 0;
@@ -34,9 +34,12 @@ static void test(dstm_engine engine) {
     run_all(THREADS, parts, works);
     for (i = 0; i < THREADS; i++) IS(DSTM_OK, dstm_thread_free(&parts[i]));
     IS(DSTM_OK, dstm_peek_u64(&memory, counter, &n));
-    IS(THREADS * EACH, n);
+    IS(THREADS * each, n);
     IS(DSTM_OK, dstm_memory_free(&memory));
     printf("%s: %llu\n", engines[engine], (unsigned long long)n);
 }
 
-int main(int count, char **words) { return for_engines(count, words, test); }
+int main(int count, char **words) {
+    if (count > 2) each = atoi(words[2]);
+    return for_engines(count, words, test);
+}

@@ -399,9 +399,7 @@ impl<'m> Thread<'m> {
                 },
                 Err(Stop::Again) => forget(tx),
                 Err(Stop::Retry) => {
-                    if !tx.is_woken() {
-                        return Err(Error::Idle);
-                    }
+                    tx.wait()?;
                     forget(tx);
                 }
                 Err(Stop::Failed(error)) => return Err(error),
@@ -461,12 +459,18 @@ impl<'m> Tx<'_, 'm> {
         }
     }
 
-    // Waits until something that it has read may have changed, for so many looks at most.
-    fn is_woken(&mut self) -> bool {
-        (0..LOOKS).any(|_| {
+    // Waits until something that it has read may have changed, for so many looks at most. One that is spent begins by
+    // another part.
+    fn wait(&mut self) -> Result<(), Error> {
+        for _ in 0..LOOKS {
             yield_now();
-            unsafe { dstmc_look(&mut self.thread.handle) != DONE }
-        })
+            match unsafe { dstmc_look(&mut self.thread.handle) } {
+                DONE => {}
+                AGAIN | SPENT => return Ok(()),
+                code => return Err(error(code)),
+            }
+        }
+        Err(Error::Idle)
     }
 
     /// What a cell holds.

@@ -24,6 +24,54 @@ fn four_threads_count() {
 }
 
 #[test]
+#[ignore = "it takes seconds"]
+fn four_threads_make_a_million_transactions_each() {
+    let mut memory = Memory::new(4).unwrap();
+    let counter = memory.cell(0u64).unwrap();
+    scope(|s| {
+        for _ in 0..4 {
+            let mut me = memory.thread().unwrap();
+            s.spawn(move || {
+                for _ in 0..1_000_000 {
+                    me.atomically(|tx| tx.update(counter, |n| n + 1)).unwrap();
+                }
+            });
+        }
+    });
+    assert_eq!(memory.get(counter), Ok(4_000_000));
+}
+
+#[test]
+fn parts_come_and_go() {
+    for engine in ENGINES {
+        let mut memory = Memory::with_engine(2, engine).unwrap();
+        let mut cells = vec![memory.cell(0u64).unwrap()];
+        for round in 1..=20 {
+            let mut a = memory.thread().unwrap();
+            let mut b = memory.thread().unwrap();
+            assert_eq!(memory.thread().err(), Some(Error::Full));
+            for me in [&mut a, &mut b] {
+                me.atomically(|tx| tx.update(cells[0], |n| n + 1)).unwrap();
+            }
+            // One that is given up in the middle of a transaction keeps nobody from committing.
+            let gone = a.atomically(|tx| {
+                tx.set(cells[0], 77)?;
+                Err::<(), _>(Stop::Failed(Error::Range))
+            });
+            assert_eq!(gone, Err(Error::Range));
+            drop(a);
+            b.atomically(|tx| tx.update(cells[0], |n| n + 1)).unwrap();
+            drop(b);
+            assert_eq!(memory.get(cells[0]), Ok(3 * round));
+            cells.push(memory.cell(round).unwrap());
+        }
+        for (round, cell) in (1..).zip(&cells[1..]) {
+            assert_eq!(memory.get(*cell), Ok(round));
+        }
+    }
+}
+
+#[test]
 fn a_part_of_tl2_has_no_end_and_a_spent_one_is_renewed() {
     for engine in [Engine::Tl2, Engine::Polka] {
         let mut memory = Memory::with_engine(3, engine).unwrap();
@@ -119,6 +167,60 @@ fn one_waits_for_the_other() {
                 }
             });
         });
+    }
+}
+
+// Waits again where nothing has changed for long, as on a machine that does much else.
+fn wait_for<'m, R>(me: &mut Thread<'m>, mut f: impl FnMut(&mut Tx<'_, 'm>) -> Result<R, Stop>) -> R {
+    loop {
+        match me.atomically(&mut f) {
+            Err(Error::Idle) => {}
+            answer => return answer.unwrap(),
+        }
+    }
+}
+
+#[test]
+fn each_number_comes_out_of_a_bounded_queue_once() {
+    const EACH: u64 = 400;
+    for engine in ENGINES {
+        let mut memory = Memory::with_engine(4, engine).unwrap();
+        // How many were taken out, and how many were put in.
+        let ends = memory.cell((0u64, 0u64)).unwrap();
+        let slots: Vec<Cell<u64>> = (0..8).map(|_| memory.cell(0u64).unwrap()).collect();
+        let slots = &slots[..];
+        let mut seen = scope(|s| {
+            for first in [0, EACH] {
+                let mut me = memory.thread().unwrap();
+                s.spawn(move || {
+                    for n in first..first + EACH {
+                        wait_for(&mut me, |tx| {
+                            let (out, put) = tx.get(ends)?;
+                            tx.ensure(put - out < 8)?;
+                            tx.set(slots[put as usize % 8], n)?;
+                            tx.set(ends, (out, put + 1))
+                        });
+                    }
+                });
+            }
+            let consumers = [(); 2].map(|()| {
+                let mut me = memory.thread().unwrap();
+                s.spawn(move || -> Vec<u64> {
+                    let mut take = || {
+                        wait_for(&mut me, |tx| {
+                            let (out, put) = tx.get(ends)?;
+                            tx.ensure(out < put)?;
+                            tx.set(ends, (out + 1, put))?;
+                            tx.get(slots[out as usize % 8])
+                        })
+                    };
+                    (0..EACH).map(|_| take()).collect()
+                })
+            });
+            consumers.map(|it| it.join().unwrap()).concat()
+        });
+        seen.sort_unstable();
+        assert_eq!(seen, (0..2 * EACH).collect::<Vec<u64>>());
     }
 }
 
