@@ -90,6 +90,16 @@ fn open_handle(alloc: Global, handle: &mut Handle, held: Held) -> Code
     }
 }
 
+// A part of a memory. The room for it comes first: where there is none, no part is used up.
+fn part_of(alloc: Global, memory: &mut Held) -> Result<Box<Held>, Code> {
+    let empty = Memory::new(alloc, 1, Engine::Tl2)?;
+    let Ok(mut room) = Box::new(alloc, Held::Memory(empty)) else {
+        return Err(Code::Memory);
+    };
+    *room = Held::Thread(memory.part()?);
+    Ok(room)
+}
+
 /// Which version the library is.
 #[unsafe(no_mangle)]
 pub extern "C" fn dstmc_version() -> u32 {
@@ -204,10 +214,13 @@ pub extern "C" fn dstmc_thread_new(alloc: Global, memory: &mut Handle, thread: &
         None => number(Code::Closed),
         Some(held) => {
             let mut held = held;
-            let made = held.part();
+            let made = part_of(alloc, &mut held);
             *memory = Handle::of(held);
             match made {
-                Ok(made) => number(open_handle(alloc, thread, Held::Thread(made))),
+                Ok(made) => {
+                    *thread = Handle::of(made);
+                    number(Code::Done)
+                }
                 Err(code) => number(code),
             }
         }
