@@ -1,5 +1,5 @@
 // What C calls.
-ghost use Rattle.std.specs.Prelude.{◌≡◌, ◌≢◌, MatchOption, None, Some};
+ghost use Rattle.std.specs.Prelude.{◌≡◌, ◌≢◌, IfErr, IfOk, MatchOption, None, Some};
 ghost use Rattle.dstm_attempts.specs.Attempts.{AddsNothing, Begins, Exchanges, Finds, SetsNothing, TakesEffect};
 ghost use Rattle.dstm_handles.specs.Held.{IfOpened, IfPart, OfMemory, OfPart, Opened};
 ghost use Rattle.dstm_handles.specs.Memories.{Grows, HasSettled};
@@ -8,6 +8,7 @@ ghost use Rattle.dstm_handles.specs.declared.code.Code.TheVariants.{Done, Taken}
 ghost use Rattle.dstm_model.specs.Map.{value_at};
 ghost use Rattle.dstm_model.specs.declared.value.Val.{Val};
 
+use core::mem::replace_with;
 use dstm_core::Manager;
 use dstm_handles::{Code, Engine, Handle, Held, Memory, free};
 use dstm_model::{AnyLaw, Law, Val};
@@ -253,15 +254,22 @@ pub extern "C" fn dstmc_begin(alloc: Global, thread: &mut Handle) -> u32
         thread.old.held thread.new.held }
     ensures nothing { IfOpened (IfPart (λ old new. AddsNothing old.attempts.caller new.attempts.caller)) thread.old.held thread.new.held }
 {
-    match take(alloc, thread) {
-        None => number(Code::Closed),
-        Some(held) => {
-            let mut held = held;
-            let code = held.begin();
-            *thread = Handle::of(held);
-            number(code)
-        }
-    }
+    number(replace_with(thread, alloc, begin))
+}
+
+// Begins by what a handle stands for.
+#[tactic(auto, using(crate::proofs::Opening::opened, crate::proofs::Opening::if_opened, crate::proofs::Opening::if_closed))]
+#[inline]
+fn begin(thread: Handle, alloc: Global) -> (Handle, Code)
+    ensures begins { result.1 ≡ Done → Opened (OfPart (λ old new. Begins ⟦<AnyLaw as Law>⟧.holds (starting old) new.attempts.caller))
+        thread.held result.0.held }
+    ensures nothing { IfOpened (IfPart (λ old new. AddsNothing old.attempts.caller new.attempts.caller)) thread.held result.0.held }
+{
+    let Some(mut held) = thread.into_held() else {
+        return (Handle::closed(alloc), Code::Closed);
+    };
+    let code = held.begin();
+    (Handle::of(held), code)
 }
 
 /// Tells what a cell holds.
@@ -279,21 +287,31 @@ pub extern "C" fn dstmc_get(
     ensures unset { result ≢ 0 → IfOpened (IfPart (λ old new. SetsNothing ⟦<AnyLaw as Law>⟧.holds old.attempts.caller
         new.attempts.caller)) thread.old.held thread.new.held }
 {
-    match take(alloc, thread) {
-        None => number(Code::Closed),
-        Some(held) => {
-            let mut held = held;
-            let value = held.get(cell);
-            *thread = Handle::of(held);
-            match value {
-                Ok(value) => {
-                    put(value, low, high);
-                    number(Code::Done)
-                }
-                Err(code) => number(code),
-            }
+    match replace_with(thread, (alloc, cell), get) {
+        Ok(value) => {
+            put(value, low, high);
+            number(Code::Done)
         }
+        Err(code) => number(code),
     }
+}
+
+// Gets by what a handle stands for.
+#[tactic(auto, using(crate::proofs::Opening::opened, crate::proofs::Opening::if_opened, crate::proofs::Opening::if_closed))]
+#[inline]
+fn get(thread: Handle, by: (Global, u32)) -> (Handle, Result<Val, Code>)
+    ensures finds { IfOk result.1 (λ value. Opened (OfPart (λ old new. Finds ⟦<AnyLaw as Law>⟧.holds old.attempts.caller
+        new.attempts.caller by.1 value)) thread.held result.0.held) }
+    ensures unset { IfErr result.1 (λ why. IfOpened (IfPart (λ old new. SetsNothing ⟦<AnyLaw as Law>⟧.holds old.attempts.caller
+        new.attempts.caller)) thread.held result.0.held) }
+    ensures fails { IfErr result.1 (λ why. why ≢ Done) }
+{
+    let (alloc, cell) = by;
+    let Some(mut held) = thread.into_held() else {
+        return (Handle::closed(alloc), Err(Code::Closed));
+    };
+    let value = held.get(cell);
+    (Handle::of(held), value)
 }
 
 /// Puts a value into a cell.
@@ -311,17 +329,25 @@ pub extern "C" fn dstmc_set(
     ensures unset { result ≢ 0 → IfOpened (IfPart (λ old new. SetsNothing ⟦<AnyLaw as Law>⟧.holds old.attempts.caller
         new.attempts.caller)) thread.old.held thread.new.held }
 {
-    match take(alloc, thread) {
-        None => number(Code::Closed),
-        Some(held) => {
-            let mut held = held;
-            let had = held.set(cell, Val { low, high });
-            *thread = Handle::of(held);
-            match had {
-                Ok(_had) => number(Code::Done),
-                Err(code) => number(code),
-            }
-        }
+    number(replace_with(thread, (alloc, cell, Val { low, high }), set))
+}
+
+// Sets by what a handle stands for.
+#[tactic(auto, using(crate::proofs::Opening::opened, crate::proofs::Opening::if_opened, crate::proofs::Opening::if_closed))]
+#[inline]
+fn set(thread: Handle, by: (Global, u32, Val)) -> (Handle, Code)
+    ensures puts { result.1 ≡ Done → Opened (OfPart (λ old new. (had : Val) × Exchanges ⟦<AnyLaw as Law>⟧.holds old.attempts.caller
+        new.attempts.caller by.1 had by.2)) thread.held result.0.held }
+    ensures unset { result.1 ≢ Done → IfOpened (IfPart (λ old new. SetsNothing ⟦<AnyLaw as Law>⟧.holds old.attempts.caller
+        new.attempts.caller)) thread.held result.0.held }
+{
+    let (alloc, cell, value) = by;
+    let Some(mut held) = thread.into_held() else {
+        return (Handle::closed(alloc), Code::Closed);
+    };
+    match held.set(cell, value) {
+        Ok(_had) => (Handle::of(held), Code::Done),
+        Err(code) => (Handle::of(held), code),
     }
 }
 
@@ -333,15 +359,22 @@ pub extern "C" fn dstmc_commit(alloc: Global, thread: &mut Handle) -> u32
         new.attempts.caller)) thread.old.held thread.new.held }
     ensures nothing { result ≢ 0 → IfOpened (IfPart (λ old new. AddsNothing old.attempts.caller new.attempts.caller)) thread.old.held thread.new.held }
 {
-    match take(alloc, thread) {
-        None => number(Code::Closed),
-        Some(held) => {
-            let mut held = held;
-            let code = held.commit();
-            *thread = Handle::of(held);
-            number(code)
-        }
-    }
+    number(replace_with(thread, alloc, commit))
+}
+
+// Commits by what a handle stands for.
+#[tactic(auto, using(crate::proofs::Opening::opened, crate::proofs::Opening::if_opened, crate::proofs::Opening::if_closed))]
+#[inline]
+fn commit(thread: Handle, alloc: Global) -> (Handle, Code)
+    ensures takes { result.1 ≡ Done → Opened (OfPart (λ old new. TakesEffect ⟦<AnyLaw as Law>⟧.holds old.attempts.caller
+        new.attempts.caller)) thread.held result.0.held }
+    ensures nothing { result.1 ≢ Done → IfOpened (IfPart (λ old new. AddsNothing old.attempts.caller new.attempts.caller)) thread.held result.0.held }
+{
+    let Some(mut held) = thread.into_held() else {
+        return (Handle::closed(alloc), Code::Closed);
+    };
+    let code = held.commit();
+    (Handle::of(held), code)
 }
 
 /// Gives the transaction up.
