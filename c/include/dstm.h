@@ -181,10 +181,10 @@ static inline dstm_code dstm_abort(dstm_thread *me) { return DSTM_CALL(me, dstmc
 
 /* One look. OK: nothing that the transaction has read has changed. AGAIN: something may have (by TL2, where any
    transaction has committed since it began), or it was lost. After a look it can only look, begin again or be given
-   up. SPENT, IDLE, CLOSED. */
+   up. By DSTM the first look lets go of what it has set, which wants memory. MEMORY, SPENT, IDLE, CLOSED. */
 static inline dstm_code dstm_look(dstm_thread *me) { return DSTM_CALL(me, dstmc_look(me)); }
 /* So many looks, and before each of them the processor is left to others. AGAIN: begin again. RETRY: nothing has
-   changed for all of them; the transaction is given up. SPENT, IDLE, CLOSED. */
+   changed for all of them; the transaction is given up. MEMORY, SPENT, IDLE, CLOSED. */
 static inline dstm_code dstm_wait(dstm_thread *me, uint32_t looks) {
     for (; looks; looks--) {
         dstm_code code;
