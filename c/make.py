@@ -134,11 +134,15 @@ def left_by_rt_ci():
     loader.exec_module(rtlib)
     marked = []
     try:
-        for crate in rtlib.Crate(f"{ROOT}/crates/dstm_c", ROOT, {}).below():
+        below = rtlib.Crate(f"{ROOT}/crates/dstm_c", ROOT, {}).below()
+        for crate in below:
             if os.path.isdir(crate.rlib) and not crate.is_built():
                 marked.append(f"{crate.folder}/out/rlib/stamp")
                 with open(marked[-1], "w", encoding="utf-8") as it:
                     it.write(crate.stamp())
+        for crate in below:
+            if not crate.is_built():
+                raise Missing(f"library {crate.name} of rt ci")
         yield
     finally:
         for it in marked:
@@ -147,14 +151,30 @@ def left_by_rt_ci():
 
 
 def prove(behind_rt_ci):
-    """Proves the exports and what they stand on, and returns the archive."""
-    folder = f"{ROOT}/crates/dstm_c"
-    with left_by_rt_ci() if behind_rt_ci else contextlib.nullcontext():
-        said = call([tool("rt"), "lib"], cwd=folder, timeout=None)
+    """Proves the exports and what they stand on, and returns the archive. Behind rt ci, which has just proved them, what
+    is wrong with the kit alone is no failure."""
+    if not behind_rt_ci:
+        return proved(call([tool("rt"), "lib"], cwd=f"{ROOT}/crates/dstm_c", timeout=None))
+    words, cwd = [tool("rt"), "lib"], f"{ROOT}/crates/dstm_c"
+    try:
+        with left_by_rt_ci():
+            ran = subprocess.run(words, cwd=cwd, timeout=900, stdin=subprocess.DEVNULL, capture_output=True, text=True)
+    except (Missing, Failed):
+        raise
+    except subprocess.TimeoutExpired:
+        raise Missing("end of rt lib within 15 minutes") from None
+    except (Exception, SystemExit) as why:
+        raise Missing(f"kit that takes what rt ci has left ({type(why).__name__}: {why})") from None
+    if "logic=not-proved" not in ran.stdout and (ran.returncode or "logic=proved" not in ran.stdout):
+        raise Missing(f"archive of rt lib ({(ran.stdout + ran.stderr).strip()[-200:]})")
+    return proved(ran.stdout)
+
+
+def proved(said):
     last = [line for line in said.splitlines() if line.startswith("logic=")]
     if not last or not last[-1].startswith("logic=proved"):
         raise Failed(f"rt lib proved nothing:\n{said[-1000:]}")
-    return f"{folder}/out/libdstm_c.a"
+    return f"{ROOT}/crates/dstm_c/out/libdstm_c.a"
 
 
 def kit():
@@ -171,11 +191,10 @@ def archive(exports):
     if os.path.exists(whole):
         os.remove(whole)
     script = f"create {whole}\naddlib {exports}\naddlib {kit()}/c/liblibc_c.a\nsave\nend\n"
-    ar = shutil.which("ar")
-    words = [ar, "-M"] if ar else ["llvm-ar", "-M"]
-    by = ar or f"{kit()}/toolchain/bin/llvm-ar"
-    ran = subprocess.run(words, executable=by, input=script, capture_output=True, text=True)
-    if ran.returncode or not os.path.isfile(whole):
+    for by in (shutil.which("ar"), f"{kit()}/toolchain/bin/llvm-ar"):
+        if by and not os.path.isfile(whole):
+            ran = subprocess.run(["llvm-ar", "-M"], executable=by, input=script, capture_output=True, text=True)
+    if not os.path.isfile(whole):
         raise Failed(f"ar: {ran.stderr[-1000:]}")
     return f"{os.path.getsize(whole):,} bytes"
 
@@ -446,7 +465,7 @@ def main():
             if args.bench:
                 steps.step("the benchmark", lambda: bench(room))
     print(f"{steps.passed} passed, {steps.failed} failed, {steps.skipped} skipped", flush=True)
-    return 1 if steps.failed or not steps.passed else 0
+    return 1 if steps.failed or not (steps.passed or args.behind_rt_ci) else 0
 
 
 if __name__ == "__main__":
