@@ -1,0 +1,300 @@
+#!/usr/bin/env python3
+"""Makes wrong bodies of a few shapes from the source of a crate, asks the prover for each, and tells what came of it.
+
+    edits/plant.py --list NAME ..       writes the bodies of these crates, and proves nothing
+    edits/plant.py NAME ..              tries each on a copy of the work tree
+      --only WORD                       those of functions whose file or name has this word
+      --shape SHAPE                     those of one shape: twice, more, result, argument, loop, early, option, constant
+      --most N                          so many of each crate, evenly spread
+
+README.md, beside it, says what a line of the answer means.
+"""
+
+import argparse
+import re
+import shutil
+import subprocess
+import sys
+import tempfile
+from collections import Counter, namedtuple
+from pathlib import Path
+
+TOP = Path(__file__).resolve().parent.parent
+KINDS = ["clause", "open", "elsewhere", "proved", "no source", "not judged"]
+# The texts of the files that a body changes, and the function to check (none where many functions cite what it turns).
+Body = namedtuple("Body", "shape texts only note")
+Function = namedtuple("Function", "name returns begin end")
+NAMES = re.compile(r"has no field|is not in scope|has no `|was not admitted|not checked|is no name")
+
+
+# ---- reading
+
+def close_of(text, at):
+    """Returns the place behind the bracket that closes the one here."""
+    depth = 0
+    for at in range(at, len(text)):
+        depth += (text[at] in "([{") - (text[at] in ")]}")
+        if depth == 0:
+            return at + 1
+    return len(text)
+
+
+def masked(text):
+    """Returns the text with blanks for comments, strings, attributes and what is said in antt."""
+    blank = lambda it: re.sub(r"[^\n]", " ", it)
+    text = re.sub(r'//[^\n]*|"(?:\\.|[^"\\])*"|#!?\[[^\]\n]*\]', lambda it: blank(it[0]), text)
+    at = 0
+    while clause := re.compile(r"\b(requires|ensures|ghost)\b[^{};]*\{").search(text, at):
+        at = close_of(text, clause.end() - 1)
+        text = text[: clause.start()] + blank(text[clause.start() : at]) + text[at:]
+    return text
+
+
+def functions_of(mask, text):
+    """Returns the functions that have a body and are no tests, with the places between its braces."""
+    found = []
+    for it in re.finditer(r"\bfn (\w+)", mask):
+        opens = re.compile(r"[{;]").search(mask, close_of(mask, mask.index("(", it.end())))
+        is_test = "#[test]" in text[max(0, it.start() - 80) : it.start()].rsplit("}", 1)[-1]
+        if opens and opens[0] == "{" and not is_test:
+            returns = re.search(r"->\s*([^{]*?)\s*(?:where\b|\{|$)", mask[it.end() : opens.end()])
+            end = close_of(mask, opens.start()) - 1
+            found.append(Function(it[1], returns[1].strip() if returns else "", opens.end(), end))
+    return found
+
+
+def statements_of(mask, begin, end):
+    """Returns where the simple statements, and the last expressions of blocks, begin and end."""
+    found = []
+    for it in re.finditer(r"[{};]\s*(?=[^\s{};),.?])", "{" + mask[begin:end]):
+        start = at = begin - 1 + it.end()
+        if re.match(r"(for|while|loop|if|match|else|return|break|continue)\b", mask[start:end]):
+            continue
+        while at < end and mask[at] not in ";}":
+            at = close_of(mask, at) if mask[at] in "([{" else at + 1
+        said = mask[start:at].rstrip()
+        flat = re.sub(r"\([^()]*\)|\{[^{}]*\}", "", said)
+        # What stands between the braces of a `match` or of a struct is none.
+        if "=>" not in flat and not re.match(r"\w+\s*[:,](?!:)", said) and not said.endswith(","):
+            found.append((start, start + len(said) + (mask[at : at + 1] == ";")))
+    return found
+
+
+def call_of(said):
+    """Returns the call that a statement makes, or nothing."""
+    call = re.sub(r"^let [^=]*= ", "", said).rstrip(";").strip()
+    return call if re.match(r"[a-zA-Z][\w.:]*(::<[^()]*>)?\(", call) and not re.match(r"(Ok|Err|Some)\(", call) else ""
+
+
+def parts_of(text, mask, begin, end):
+    """Returns the arguments between these places."""
+    commas, at = [begin - 1], begin
+    while at < end:
+        commas += [at] * (mask[at] == ",")
+        at = close_of(mask, at) if mask[at] in "([{" else at + 1
+    return [it for it in (text[a + 1 : b].strip() for a, b in zip(commas, [*commas[1:], end])) if it]
+
+
+# ---- the shapes: each gives what is replaced, by where it begins and ends, and what stands there then
+
+def twice(f, text, mask):
+    for start, end in statements_of(mask, f.begin, f.end):
+        if call := call_of(text[start:end]):
+            yield start, start, f"let _ = {call}; "
+
+
+def more(f, text, mask):
+    found = statements_of(mask, f.begin, f.end)
+    for start, end in found:
+        for at in {found[0][0], found[-1][0]} - {start} if call_of(text[start:end]) else []:
+            yield at, at, f"let _ = {call_of(text[start:end])}; "
+
+
+def result(f, text, mask):
+    for it in re.finditer(r"\b(?:(true|false)\b|(\w+)::([A-Z]\w*)(?![\w(:{])|Some\()", mask[f.begin : f.end]):
+        at, rest = f.begin + it.start(), mask[f.begin + it.end() :].split("\n", 1)[0]
+        line = mask[: f.begin + it.end()].rsplit("\n", 1)[-1]
+        if "=>" in rest or re.search(r"\blet Some|matches!", line) or re.match(r" *\|", rest):
+            continue
+        unlike = [f"{it[2]}::{variant}" for variant in ENUMS.get(it[2], []) if variant != it[3]][:2]
+        unlike = {"true": ["false"], "false": ["true"], "Some(": ["None"]}.get(it[0], unlike)
+        for new in unlike:
+            yield at, close_of(mask, at + 4) if new == "None" else at + len(it[0]), new
+    bound = re.findall(r"\blet (?:mut )?(\w+)", mask[f.begin : f.end])
+    for it in re.finditer(r"\bOk\(([a-z]\w*)\)(?! *=>)", mask[f.begin : f.end]):
+        for new in [name for name in dict.fromkeys(bound) if name != it[1]][:2]:
+            yield f.begin + it.start(1), f.begin + it.end(1), new
+
+
+def argument(f, text, mask):
+    for it in re.finditer(r"(?<![!\w])[a-z_]\w*\(", mask[f.begin : f.end]):
+        opens = f.begin + it.end()
+        end = close_of(mask, opens - 1) - 1
+        parts = parts_of(text, mask, opens, end)
+        for n, (one, two) in enumerate(zip(parts, parts[1:])):
+            # What is lent, and what is an allocator, seldom has the type of what stands beside it.
+            kinds = {re.match(r"&mut|&|(self\.)?alloc$|rt$|", part)[0] for part in (one, two)}
+            for new in [(two, one), (one, one), (two, two)] if one != two and len(kinds) == 1 else []:
+                yield opens, end, ", ".join([*parts[:n], *new, *parts[n + 2 :]])
+
+
+def loop(f, text, mask):
+    for it in re.finditer(r"\bfor .* in (.*?)(\.\.=?)(.*?) \{", mask[f.begin : f.end]):
+        low, dots, high = it.groups()
+        ends = {"..=": [f"{low}..{high}"], "..": [f"{low}..=({high})", f"{low}..({high}).saturating_sub(1)"]}[dots]
+        for new in [f"{low} + 1{dots}{high}", *ends]:
+            yield f.begin + it.start(1), f.begin + it.end(3), new
+    for it in re.finditer(r"\bin (&?)(\w[\w.]*?)(\.iter\(\))? \{", mask[f.begin : f.end]):
+        yield f.begin + it.start(1), f.begin + it.end() - 2, f"{it[2]}.iter().skip(1)"
+
+
+def early(f, text, mask):
+    held = re.sub(r"^(?:Result|Option)<(.*?)(?:, [^<>]*)?>$", r"\1", f.returns)
+    plain = {"()": ["()"], "": [""], "bool": ["true", "false"]}.get(held, ["0"] if re.match(r"u\w+$", held) else [])
+    plain += [f"{held}::{variant}" for variant in ENUMS.get(held, [])[:2]]
+    answers = [f"Ok({it})" for it in plain] if f.returns.startswith("Result") else plain
+    answers = ["None"] if f.returns.startswith("Option") else answers
+    for start, _ in statements_of(mask, f.begin, f.end):
+        for new in answers:
+            yield start, start, f"return {new}; ".replace("return ;", "return;")
+
+
+def option(f, text, mask):
+    for it in re.finditer(r"\bif (?!let\b)(.*?) \{", mask[f.begin : f.end]):
+        for new in ("true", "false"):
+            yield f.begin + it.start(1), f.begin + it.end(1), new
+    for it in re.finditer(r"(?<![\w.])[a-z_][\w.]*\.(\w+)\b(?! ?[(=.])", mask[f.begin : f.end]):
+        if it[1] in BOOLS:
+            yield f.begin + it.start(), f.begin + it.end(), "false"
+
+
+def constants(crate, file, text, mask, place):
+    """Returns bodies in which a number is turned: in the code alone, and in the definitions too where they say it."""
+    specs = {it: it.read_text(encoding="utf-8") for it in sorted((crate / "specs").rglob("*.antt"))}
+    functions = functions_of(mask, text)
+    for it in re.finditer(r"(?<![\w.])(\d[\d_]*)(?![\w.]*\w)", mask):
+        value, line = int(it[1].replace("_", "")), mask[: it.start()].rsplit("\n", 1)[-1]
+        inside = [f.name for f in functions if f.begin <= it.start() < f.end]
+        if value < 2 or not (inside or re.search(r"\bconst \w+:", line)):
+            continue
+        said = re.compile(rf"(?<![\w.]){value}(?![\w.])")
+        for new in dict.fromkeys([value + 1, 1]):
+            turned = {file: text[: it.start(1)] + str(new) + text[it.end(1) :]}
+            note = f"{place(it.start())} {line.strip()} {it[1]}: {new}"
+            yield Body("constant", turned, inside[0] if inside else None, note)
+            if both := {path: said.sub(str(new), was) for path, was in specs.items() if said.search(was)}:
+                yield Body("constant", {**turned, **both}, None, f"{note}, and in specs/")
+
+
+def bodies_of(crate):
+    """Returns the wrong bodies of a crate, each once."""
+    found, seen = [], set()
+    for file in sorted(it for it in (crate / "src").rglob("*.rt") if it.name != "tests.rt"):
+        text = file.read_text(encoding="utf-8")
+        mask = masked(text)
+        place = lambda at: f"{file.relative_to(crate)}:{text.count(chr(10), 0, at) + 1}"
+        for f in functions_of(mask, text):
+            for shape in (twice, more, result, argument, loop, early, option):
+                for start, end, new in shape(f, text, mask):
+                    turned = text[:start] + new + text[end:]
+                    was = " ".join((text[start:end] or text[start:].split("\n", 1)[0]).split())[:60]
+                    note = f"{place(start)} {f.name}: {was}: {' '.join(new.split())}"
+                    if turned != text and turned not in seen:
+                        seen.add(turned)
+                        found.append(Body(shape.__name__, {file: turned}, f.name, note))
+        found += constants(crate, file, text, mask, place)
+    return found
+
+
+# ---- asking the prover
+
+class Room:
+    """A copy of the work tree, in which bodies are tried. rt takes there what checks on this machine have kept."""
+
+    def __init__(self, folder, name):
+        shutil.copytree(TOP / "crates", f"{folder}/crates", ignore=shutil.ignore_patterns("out", "must-fail"))
+        for file in ("crates.txt", "HANDLES"):
+            shutil.copy(TOP / file, folder)
+        subprocess.run(["git", "init", "-q", folder], check=True)
+        self.here, self.crate = TOP / "crates" / name, Path(folder) / "crates" / name
+
+    def check(self, *words):
+        how = {"cwd": self.crate, "stdout": subprocess.PIPE, "stderr": subprocess.STDOUT, "encoding": "utf-8"}
+        ran = subprocess.run(["rt", "check", *words], **how, errors="replace")
+        return ran.returncode, "\n".join(dict.fromkeys(it.removeprefix("so far: ") for it in ran.stdout.split("\n")))
+
+    def drop(self, errors):
+        """Takes the declarations of proof files away in which these errors lie. Returns whether there was any."""
+        dropped = 0
+        for file in {file for file, _ in errors}:
+            kept, line = [], 1
+            for block in (self.crate / file).read_text(encoding="utf-8").split("\n\n"):
+                behind = line + block.count("\n") + 2
+                lies = any(where == file and line <= at < behind for where, at in errors) and block[:4] != "use "
+                kept += [] if lies else [block]
+                line, dropped = behind, dropped + lies
+            (self.crate / file).write_text("\n\n".join(kept), encoding="utf-8")
+        return dropped
+
+    def tried(self, body):
+        """Returns what became of a body, and by which goals."""
+        for file, text in body.texts.items():
+            (self.crate / file.relative_to(self.here)).write_text(text, encoding="utf-8")
+        try:
+            return self.judged(["--only", body.only] if body.only else [])
+        finally:
+            for part in [part for part in ("src", "specs", "proofs") if (self.here / part).is_dir()]:
+                shutil.copytree(self.here / part, self.crate / part, dirs_exist_ok=True)
+
+    def judged(self, words):
+        for times in range(6):
+            status, said = self.check(*words)
+            if status == 0 or re.search(r"(?m)\berror\[[\w-]+\]|^(\./)?(src|specs)/\S+: error", said):
+                return "no source" if status else "proved", f"{times} times without answers" * bool(times)
+            errors = re.findall(r"(?m)^(?:\./)?(proofs/\S+?\.antt):(\d+):\d+: error: (?:`([^`]*)`: )?(.*)", said)
+            goals = re.findall(r"note: \S+: (.*?) \(`(\S+)`\)", said)
+            own = [name for what, name in goals if "requires holds at this call" not in what]
+            false = [name for _, _, name, what in errors if not NAMES.search(what)]
+            if false or (own and not errors and not times):
+                return "clause", ", ".join(dict.fromkeys(false + own))
+            if not errors:
+                kind = "open" if own else "elsewhere" if goals else "not judged"
+                return kind, ", ".join(dict.fromkeys(own or [name for _, name in goals]))
+            if not self.drop([(file, int(line)) for file, line, _, _ in errors]):
+                break
+        return "not judged", "a proof file names what is gone"
+
+
+def main():
+    words = argparse.ArgumentParser(description=__doc__, formatter_class=argparse.RawDescriptionHelpFormatter)
+    words.add_argument("names", nargs="+", metavar="NAME")
+    words.add_argument("--list", action="store_true")
+    words.add_argument("--only", default="")
+    words.add_argument("--shape", default="")
+    words.add_argument("--most", type=int, default=1 << 30)
+    given = words.parse_args()
+    for name in given.names:
+        found = [it for it in bodies_of(TOP / "crates" / name) if given.only in it.note and given.shape in it.shape]
+        found, count = found[:: -(-len(found) // given.most) or 1], Counter()
+        if given.list:
+            print(*(f"{name}: {it.shape}: {it.note}" for it in found), sep="\n")
+            print(f"{name}: {len(found)} bodies: {dict(Counter(it.shape for it in found))}")
+            continue
+        with tempfile.TemporaryDirectory(prefix="plant-") as folder:
+            room = Room(folder, name)
+            if room.check()[0]:
+                sys.exit(f"edits/plant.py: {name} is not proved as it stands")
+            for it in found:
+                kind, why = room.tried(it)
+                count[kind] += 1
+                print(f"{kind}: {name}: {it.shape}: {it.note}" + f"  ({why[:160]})" * bool(why), flush=True)
+        print(f"| `{name}` | {len(found)} | " + " | ".join(str(count[kind]) for kind in KINDS) + " |", flush=True)
+
+
+# The variants of each enum that hold nothing, and the fields that are truth values, of all crates.
+ALL = "\n".join(masked(it.read_text(encoding="utf-8")) for it in sorted((TOP / "crates").glob("*/src/**/*.rt")))
+ENUMS = {it[0]: re.findall(r"(?m)^ +([A-Z]\w*),", it[1]) for it in re.findall(r"(?s)\benum (\w+)[^{]*(\{.*?\n\})", ALL)}
+BOOLS = set(re.findall(r"\b(\w+): bool,", ALL))
+
+if __name__ == "__main__":
+    main()
