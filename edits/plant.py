@@ -152,10 +152,9 @@ def early(f, text, mask):
     held = re.sub(r"^(?:Result|Option)<(.*?)(?:, [^<>]*)?>$", r"\1", f.returns)
     plain = {"()": ["()"], "": [""], "bool": ["true", "false"]}.get(held, ["0"] if re.match(r"u\w+$", held) else [])
     plain += [f"{held}::{variant}" for variant in ENUMS.get(held, [])[:2]]
-    answers = [f"Ok({it})" for it in plain] if f.returns.startswith("Result") else plain
-    answers = ["None"] if f.returns.startswith("Option") else answers
+    answers = {"Result": [f"Ok({it})" for it in plain], "Option": ["None"]}
     for start, _ in statements_of(mask, f.begin, f.end):
-        for new in answers:
+        for new in answers.get(f.returns[:6], plain):
             yield start, start, f"return {new}; ".replace("return ;", "return;")
 
 
@@ -249,33 +248,34 @@ class Room:
     def judged(self, words):
         for times in range(6):
             status, said = self.check(*words)
-            if status == 0 or re.search(r"(?m)\berror\[[\w-]+\]|^(\./)?(src|specs)/\S+: error", said):
-                return "no source" if status else "proved", f"{times} times without answers" * bool(times)
+            if status == 0 or re.search(r"(?m)^only=(\d+) proved=\1\b", said):
+                return "proved", f"{times} times without answers" * bool(times)
+            if re.search(r"(?m)\berror\[[\w-]+\]|^(\./)?(src|specs)/\S+: error", said):
+                return "no source", ""
             errors = re.findall(r"(?m)^(?:\./)?(proofs/\S+?\.antt):(\d+):\d+: error: (?:`([^`]*)`: )?(.*)", said)
-            goals = re.findall(r"note: \S+: (.*?) \(`(\S+)`\)", said)
-            own = [name for what, name in goals if "requires holds at this call" not in what]
             false = [name for _, _, name, what in errors if not NAMES.search(what)]
-            if false or (own and not errors and not times):
-                return "clause", ", ".join(dict.fromkeys(false + own))
-            if not errors:
-                kind = "open" if own else "elsewhere" if goals else "not judged"
-                return kind, ", ".join(dict.fromkeys(own or [name for _, name in goals]))
+            # Without answers that stood in a proof file a goal that is not proved shows less.
+            is_open = times and not false
+            false += re.findall(r"note: \S+: .*? \(`(\S+)`\)", said)
+            own = [name for name in dict.fromkeys(false) if "-requires" not in name]
+            if false and (own or not errors):
+                return ("open" if is_open and own else "clause" if own else "elsewhere"), ", ".join(own or false)
             if not self.drop([(file, int(line)) for file, line, _, _ in errors]):
                 break
-        return "not judged", "a proof file names what is gone"
+        return "not judged", "a proof file names what is gone" * bool(errors)
 
 
 def main():
     words = argparse.ArgumentParser(description=__doc__, formatter_class=argparse.RawDescriptionHelpFormatter)
     words.add_argument("names", nargs="+", metavar="NAME")
     words.add_argument("--list", action="store_true")
-    words.add_argument("--only", default="")
-    words.add_argument("--shape", default="")
+    for word in ("--only", "--shape"):
+        words.add_argument(word, default="")
     words.add_argument("--most", type=int, default=1 << 30)
     given = words.parse_args()
-    for name in given.names:
+    for name, count in [(name, Counter()) for name in given.names]:
         found = [it for it in bodies_of(TOP / "crates" / name) if given.only in it.note and given.shape in it.shape]
-        found, count = found[:: -(-len(found) // given.most) or 1], Counter()
+        found = found[:: -(-len(found) // given.most) or 1]
         if given.list:
             print(*(f"{name}: {it.shape}: {it.note}" for it in found), sep="\n")
             print(f"{name}: {len(found)} bodies: {dict(Counter(it.shape for it in found))}")
