@@ -1,13 +1,11 @@
 #!/usr/bin/env python3
-"""Makes wrong bodies of a few shapes from the source of a crate, asks the prover for each, and tells what came of it.
+"""Makes wrong bodies of a few shapes from the source of a crate, and asks the prover for each. README has the rest.
 
     edits/plant.py --list NAME ..       writes the bodies of these crates, and proves nothing
     edits/plant.py NAME ..              tries each on a copy of the work tree
       --only WORD                       those of functions whose file or name has this word
       --shape SHAPE                     those of one shape: twice, more, result, argument, loop, early, option, constant
       --most N                          so many of each crate, evenly spread
-
-README.md, beside it, says what a line of the answer means.
 """
 
 import argparse
@@ -24,10 +22,10 @@ KINDS = ["clause", "open", "elsewhere", "proved", "no source", "not judged"]
 # The texts of the files that a body changes, and the function to check (none where many functions cite what it turns).
 Body = namedtuple("Body", "shape texts only note")
 Function = namedtuple("Function", "name returns begin end")
+# The variants of each enum that hold nothing, and the fields that are truth values.
+ENUMS, BOOLS = {}, set()
 NAMES = re.compile(r"has no field|is not in scope|has no `|was not admitted|not checked|is no name")
 
-
-# ---- reading
 
 def close_of(text, at):
     """Returns the place behind the bracket that closes the one here."""
@@ -50,13 +48,19 @@ def masked(text):
     return text
 
 
+def read_types(folder):
+    said = "\n".join(masked(it.read_text(encoding="utf-8")) for it in sorted(folder.glob("**/src/**/*.rt")))
+    for name, body in re.findall(r"(?s)\benum (\w+)[^{]*(\{.*?\n\})", said):
+        ENUMS[name] = re.findall(r"(?m)^ +([A-Z]\w*),", body)
+    BOOLS.update(re.findall(r"\b(\w+): bool,", said))
+
+
 def functions_of(mask, text):
     """Returns the functions that have a body and are no tests, with the places between its braces."""
     found = []
     for it in re.finditer(r"\bfn (\w+)", mask):
         opens = re.compile(r"[{;]").search(mask, close_of(mask, mask.index("(", it.end())))
-        is_test = "#[test]" in text[max(0, it.start() - 80) : it.start()].rsplit("}", 1)[-1]
-        if opens and opens[0] == "{" and not is_test:
+        if opens and opens[0] == "{" and "#[test]" not in text[: it.start()].rsplit("}", 1)[-1]:
             returns = re.search(r"->\s*([^{]*?)\s*(?:where\b|\{|$)", mask[it.end() : opens.end()])
             end = close_of(mask, opens.start()) - 1
             found.append(Function(it[1], returns[1].strip() if returns else "", opens.end(), end))
@@ -75,7 +79,8 @@ def statements_of(mask, begin, end):
         said = mask[start:at].rstrip()
         flat = re.sub(r"\([^()]*\)|\{[^{}]*\}", "", said)
         # What stands between the braces of a `match` or of a struct is none.
-        if "=>" not in flat and not re.match(r"\w+\s*[:,](?!:)", said) and not said.endswith(","):
+        is_part = said.count("[") != said.count("]") or re.match(r"\w+\s*[:,](?!:)", said) or said.endswith(",")
+        if "=>" not in flat and not is_part:
             found.append((start, start + len(said) + (mask[at : at + 1] == ";")))
     return found
 
@@ -95,7 +100,7 @@ def parts_of(text, mask, begin, end):
     return [it for it in (text[a + 1 : b].strip() for a, b in zip(commas, [*commas[1:], end])) if it]
 
 
-# ---- the shapes: each gives what is replaced, by where it begins and ends, and what stands there then
+# The shapes: each gives what is replaced, by where it begins and ends, and what stands there then
 
 def twice(f, text, mask):
     for start, end in statements_of(mask, f.begin, f.end):
@@ -144,8 +149,8 @@ def loop(f, text, mask):
         ends = {"..=": [f"{low}..{high}"], "..": [f"{low}..=({high})", f"{low}..({high}).saturating_sub(1)"]}[dots]
         for new in [f"{low} + 1{dots}{high}", *ends]:
             yield f.begin + it.start(1), f.begin + it.end(3), new
-    for it in re.finditer(r"\bin (&?)(\w[\w.]*?)(\.iter\(\))? \{", mask[f.begin : f.end]):
-        yield f.begin + it.start(1), f.begin + it.end() - 2, f"{it[2]}.iter().skip(1)"
+    for it in re.finditer(r"\bin &?([a-z_]\w*(?:\.[a-z]\w*)*?)(\.iter\(\))? \{", mask[f.begin : f.end]):
+        yield f.begin + it.start(1), f.begin + it.end() - 2, f"{it[1]}.iter().skip(1)"
 
 
 def early(f, text, mask):
@@ -187,6 +192,9 @@ def constants(crate, file, text, mask, place):
 
 def bodies_of(crate):
     """Returns the wrong bodies of a crate, each once."""
+    # (where two crates have a type of one name, this crate's own is meant)
+    for folder in (TOP / "crates", crate):
+        read_types(folder)
     found, seen = [], set()
     for file in sorted(it for it in (crate / "src").rglob("*.rt") if it.name != "tests.rt"):
         text = file.read_text(encoding="utf-8")
@@ -197,7 +205,7 @@ def bodies_of(crate):
                 for start, end, new in shape(f, text, mask):
                     turned = text[:start] + new + text[end:]
                     was = " ".join((text[start:end] or text[start:].split("\n", 1)[0]).split())[:60]
-                    note = f"{place(start)} {f.name}: {was}: {' '.join(new.split())}"
+                    note = f"{place(start)} {f.name}: {'before ' * (start == end)}{was}: {' '.join(new.split())}"
                     if turned != text and turned not in seen:
                         seen.add(turned)
                         found.append(Body(shape.__name__, {file: turned}, f.name, note))
@@ -205,15 +213,12 @@ def bodies_of(crate):
     return found
 
 
-# ---- asking the prover
-
 class Room:
     """A copy of the work tree, in which bodies are tried. rt takes there what checks on this machine have kept."""
 
     def __init__(self, folder, name):
         shutil.copytree(TOP / "crates", f"{folder}/crates", ignore=shutil.ignore_patterns("out", "must-fail"))
-        for file in ("crates.txt", "HANDLES"):
-            shutil.copy(TOP / file, folder)
+        subprocess.run(["cp", TOP / "crates.txt", TOP / "HANDLES", folder], check=True)
         subprocess.run(["git", "init", "-q", folder], check=True)
         self.here, self.crate = TOP / "crates" / name, Path(folder) / "crates" / name
 
@@ -269,9 +274,8 @@ def main():
     words = argparse.ArgumentParser(description=__doc__, formatter_class=argparse.RawDescriptionHelpFormatter)
     words.add_argument("names", nargs="+", metavar="NAME")
     words.add_argument("--list", action="store_true")
-    for word in ("--only", "--shape"):
-        words.add_argument(word, default="")
-    words.add_argument("--most", type=int, default=1 << 30)
+    for word, default in {"--only": "", "--shape": "", "--most": 1 << 30}.items():
+        words.add_argument(word, type=type(default), default=default)
     given = words.parse_args()
     for name, count in [(name, Counter()) for name in given.names]:
         found = [it for it in bodies_of(TOP / "crates" / name) if given.only in it.note and given.shape in it.shape]
@@ -290,11 +294,6 @@ def main():
                 print(f"{kind}: {name}: {it.shape}: {it.note}" + f"  ({why[:160]})" * bool(why), flush=True)
         print(f"| `{name}` | {len(found)} | " + " | ".join(str(count[kind]) for kind in KINDS) + " |", flush=True)
 
-
-# The variants of each enum that hold nothing, and the fields that are truth values, of all crates.
-ALL = "\n".join(masked(it.read_text(encoding="utf-8")) for it in sorted((TOP / "crates").glob("*/src/**/*.rt")))
-ENUMS = {it[0]: re.findall(r"(?m)^ +([A-Z]\w*),", it[1]) for it in re.findall(r"(?s)\benum (\w+)[^{]*(\{.*?\n\})", ALL)}
-BOOLS = set(re.findall(r"\b(\w+): bool,", ALL))
 
 if __name__ == "__main__":
     main()
