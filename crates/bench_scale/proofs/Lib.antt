@@ -1,0 +1,2 @@
+mod Founded
+mod Sends
