@@ -2,4 +2,3 @@ pub mod Circles
 pub mod Effects
 pub mod Noting
 pub mod Queues
-pub mod Stopping
