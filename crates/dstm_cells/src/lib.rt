@@ -6,8 +6,6 @@ mod alternatives;
 mod cell;
 mod error;
 mod memory;
-#[cfg(test)]
-mod tests;
 mod thread;
 mod transaction;
 mod tx;

@@ -1,5 +1,5 @@
 // Each call once, by both engines, and what no clause says.
-use crate::{Cell, Engine, Failed, GaveUp, Manager, Memory, Word, ensure, retry};
+use dstm_cells::{Cell, Engine, Failed, GaveUp, Manager, Memory, Word, ensure, retry};
 use std::process::Abort;
 use std::test::Fail;
 use std::thread::Threads;
