@@ -63,7 +63,7 @@ pub(crate) fn play_alone<G>(
         &mut progress.rows,
     );
     founder.retire(&table, caller);
-    let left = close_behind(alloc, table, founder, &mut progress.rounds)?;
+    let left = close_behind(alloc, table, founder, &mut progress.rounds);
     progress.values = left;
     Ok(())
 }

@@ -51,6 +51,6 @@ pub(crate) fn run_shares<R: Threads + Sync, G: Gate + Sync>(
     let mut workers = seat_all(alloc, play.options, &table, &mut founder, shares)?;
     run_all(rt, &table, play, number == 0, &mut workers);
     let shares = retire_all(alloc, &table, &mut founder, workers)?;
-    let left = close_behind(alloc, table, founder, rounds)?;
+    let left = close_behind(alloc, table, founder, rounds);
     Ok((shares, left))
 }

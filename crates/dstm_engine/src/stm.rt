@@ -1,4 +1,4 @@
-ghost use Rattle.std.specs.Prelude.{◌≡◌, ◌↔◌, ℕ, ◌+◌, ◌<◌, ◌≤◌, ◌∷◌, length, max, true, IfOk, IfErr, MatchResult, MatchOption, OnOk, Some};
+ghost use Rattle.std.specs.Prelude.{◌≡◌, ◌↔◌, ℕ, ◌+◌, ◌<◌, ◌≤◌, ◌∷◌, length, max, true, IfOk, IfErr, IsOk, MatchResult, MatchOption, OnOk, Some};
 ghost use Rattle.dstm_core.specs.Histories.{history_of};
 ghost use Rattle.dstm_core.specs.Words.{IsValid, place, word_count};
 ghost use Rattle.dstm_engine.specs.Callers.{Called};
@@ -211,7 +211,8 @@ impl<L: Law> Stm<L> {
     }
 
     /// The current value of each object, and what is kept of the table: the last event of each caller is in its log.
-    /// A table that had guests keeps no record; see `close_plain`. It copies no word and takes no memory of `alloc`.
+    /// A table that had guests keeps no record; see `close_plain`. It copies no word and takes no memory of `alloc`, so it
+    /// never fails.
     pub fn close(
         self,
         alloc: Global,
@@ -220,6 +221,7 @@ impl<L: Law> Stm<L> {
         requires founder { founder.home ≡ self }
         requires out { founder.view.out ≡ 0 }
         requires guests { founder.guests ≡ 0 }
+        ensures done { IsOk result }
         ensures values { IfOk result (λ t. t.0.items
             ≡ state_after self.terms.start.value.items
             (history_of self.terms.shape self.terms.start.value.items founder.view.log)) }

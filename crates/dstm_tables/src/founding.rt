@@ -1,4 +1,4 @@
-ghost use Rattle.std.specs.Prelude.{◌≡◌, ◌↔◌, ◌<◌, ◌≤◌, IfErr, IfOk, length};
+ghost use Rattle.std.specs.Prelude.{◌≡◌, ◌↔◌, ◌<◌, ◌≤◌, IfErr, IfOk, IsOk, length};
 ghost use Rattle.dstm_core.specs.Words.{IsValid};
 ghost use Rattle.dstm_engine.specs.Tables.{IsFull};
 ghost use Rattle.dstm_model.specs.Map.{state_after};
@@ -152,8 +152,8 @@ impl<L: Law> Founder<L> {
 }
 
 impl<L: Law> Table<L> {
-    /// The values of its objects, and what is kept of it. A table that had guests keeps no record; see `close_plain`. On want
-    /// of memory it is given up.
+    /// The values of its objects, and what is kept of it. A table that had guests keeps no record; see `close_plain`. It
+    /// takes no memory, and never fails.
     pub fn close(
         self,
         alloc: Global,
@@ -162,6 +162,7 @@ impl<L: Law> Table<L> {
         requires founder { home_there founder ≡ self }
         requires out { out_of founder ≡ 0 }
         requires guests { guests_of founder ≡ 0 }
+        ensures done { IsOk result }
         ensures round { IfOk result (λ t. t.1 ≡ seen_by founder) }
         ensures run { IfOk result (λ t. IsRun L.holds t.1) }
         ensures values { IfOk result (λ t. t.0.items ≡ values_of t.1) }
@@ -169,17 +170,17 @@ impl<L: Law> Table<L> {
     {
         match self {
             Table::Dstm(stm) => match founder {
-                Founder::Dstm(founder) => {
-                    let (values, record) = stm.close(alloc, founder)?;
-                    Ok((values, Round::Dstm(record)))
-                }
+                Founder::Dstm(founder) => match stm.close(alloc, founder) {
+                    Ok((values, record)) => Ok((values, Round::Dstm(record))),
+                    Err(_) => unreachable!(),
+                },
                 Founder::Tl2(_) => unreachable!(),
             },
             Table::Tl2(stm) => match founder {
-                Founder::Tl2(founder) => {
-                    let (values, record) = stm.close(alloc, founder)?;
-                    Ok((values, Round::Tl2(record)))
-                }
+                Founder::Tl2(founder) => match stm.close(alloc, founder) {
+                    Ok((values, record)) => Ok((values, Round::Tl2(record))),
+                    Err(_) => unreachable!(),
+                },
                 Founder::Dstm(_) => unreachable!(),
             },
         }

@@ -1,4 +1,4 @@
-ghost use Rattle.std.specs.Prelude.{◌≡◌, ◌↔◌, ◌+◌, ◌<◌, ◌≤◌, length, true, IfOk, IfErr, Some};
+ghost use Rattle.std.specs.Prelude.{◌≡◌, ◌↔◌, ◌+◌, ◌<◌, ◌≤◌, length, true, IfOk, IfErr, IsOk, Some};
 ghost use Rattle.dstm_model.specs.Map.{state_after};
 ghost use Rattle.dstm_machines.specs.Traces.Access.{Add};
 ghost use Rattle.dstm_tl2.specs.declared.kind.Kind.TheVariants.{Enrol};
@@ -210,7 +210,7 @@ impl<L: Law> TlStm<L> {
     }
 
     /// The current value of each object, and what is kept of the table: the last event of each caller is in its log. It
-    /// copies no word and takes no memory of `alloc`.
+    /// copies no word and takes no memory of `alloc`, so it never fails.
     pub fn close(
         self,
         alloc: Global,
@@ -218,6 +218,7 @@ impl<L: Law> TlStm<L> {
     ) -> Result<(Vec<Val>, TlRecord<L>), AllocError>
         requires founder { founder.home ≡ self }
         requires out { founder.view.out ≡ 0 }
+        ensures done { IsOk result }
         ensures values { IfOk result (λ t. t.0.items
             ≡ state_after self.terms.start.value.items (history_of (table_of self.terms) founder.view.log)) }
         ensures lawful { IfOk result (λ t. L.holds self.terms.law.value t.0.items) }

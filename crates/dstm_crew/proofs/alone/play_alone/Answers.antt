@@ -32,12 +32,12 @@ returns-clause-played g c =
       now = ran.now;
       closed = seen_by taken;
       rows_are = ran.goes.rows_are;
-      rounds_are = c.in_ok-left.ensures.kept;
+      rounds_are = c.close_behind-left.ensures.kept;
       adds = adds_alone workload options c.args.number p.rows.items p.values.items table c.in_ok-table.founder taken
           c.in_ok-table.caller c.run_alone.new.caller c.run_alone.new.rows.items c.run_alone.new.turns c.requires.alone
           c.requires.can.begins opened ran (λ none. c.run_alone.ensures.keeps none ∙ opened.none_let_go) (c.retire.ensures.back ran.goes.on.rest.over)
-          c.in_ok-left.ensures.run (least_came workload options p.rows.items c.count_waiting-waiting.result.first
+          c.close_behind-left.ensures.run (least_came workload options p.rows.items c.count_waiting-waiting.result.first
           c.in_ok-table.caller c.requires.can.turns c.count_waiting-waiting.ensures.first c.in_ok-table.ensures.come)
-          c.in_ok-left.ensures.values;
+          c.close_behind-left.ensures.values;
       turns_are = ran.goes.turns_are;
     }

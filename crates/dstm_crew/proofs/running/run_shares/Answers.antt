@@ -59,7 +59,7 @@ returns-clause-run g c =
     (subst (λ (ss : List Share). IsDstmMade options workload.version number (most_places ss) shape) (sym taken)
     (was_made workload options number c.deref.result.now shape c.requires.parallel sized.attempts
     (sized.locators ∙ ap locators_for (sym sized.objects)) sized.manager sized.all_write)) told.of_shape told.attempts in
-    let closes : Closes workload options number table f values c.in_ok-left.left.items shares c.in_ok-shares.shares.items before workers =
+    let closes : Closes workload options number table f values c.close_behind-left.result.items shares c.in_ok-shares.shares.items before workers =
     record {
       engine = told.of_engine;
       layout = told.layout;
@@ -72,13 +72,13 @@ returns-clause-run g c =
       ended = c.run_all.ensures.ended;
       back = subst (λ (ws : List Worker). HasBack table 0 ws f) whole c.in_ok-shares.ensures.founder;
       are = c.in_ok-shares.ensures.shares ∙ ap (map share_of) whole;
-      run = c.in_ok-left.ensures.run;
-      left_is = c.in_ok-left.ensures.values;
+      run = c.close_behind-left.ensures.run;
+      left_is = c.close_behind-left.ensures.values;
     } in (
       seen_by f,
       (
-        c.in_ok-left.ensures.kept,
-        were_run workload options number table f values c.in_ok-left.left.items shares c.in_ok-shares.shares.items before workers
+        c.close_behind-left.ensures.kept,
+        were_run workload options number table f values c.close_behind-left.result.items shares c.in_ok-shares.shares.items before workers
             closes,
       ),
     )
