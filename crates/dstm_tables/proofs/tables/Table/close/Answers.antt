@@ -6,14 +6,14 @@ use Rattle.dstm_tables.specs.Tells.{values_of}
 use Rattle.dstm_tables.proofs.GivingOut.{dstm_values, tl2_values}
 use Rattle.dstm_tables.proofs.tables.Table.close.Goals as goal
 
-pub returns-in_ok-values-in-Dstm-founder-clause-values : goal.returns-in_ok-values-in-Dstm-founder-clause-values
-returns-in_ok-values-in-Dstm-founder-clause-values g c =
-    let closed = c.in_ok-values-in-Dstm-founder.ensures in
+pub returns-in-Ok-clause-values : goal.returns-in-Ok-clause-values
+returns-in-Ok-clause-values g c =
+    let closed = c.in-Ok.ensures in
     closed.values ∙ dstm_values (record { terms = c.in-Dstm.stm.terms; log = c.in-Dstm-founder.founder.view.log })
     ∙ ap (λ (r : Recorded _). values_of (round.Dstm r)) (sym closed.record)
 
-pub returns-in_ok-values-in-Tl2-founder-2-clause-values : goal.returns-in_ok-values-in-Tl2-founder-2-clause-values
-returns-in_ok-values-in-Tl2-founder-2-clause-values g c =
-    let closed = c.in_ok-values-in-Tl2-founder-2.ensures in
+pub returns-in-Ok-close-clause-values : goal.returns-in-Ok-close-clause-values
+returns-in-Ok-close-clause-values g c =
+    let closed = c.in-Ok-close.ensures in
     closed.values ∙ tl2_values (record { terms = c.in-Tl2.stm.terms; log = c.in-Tl2-founder-2.founder.view.log })
     ∙ ap (λ (r : TlRecorded _). values_of (round.Tl2 r)) (sym closed.record)
