@@ -1,5 +1,5 @@
 -- What the calls on a layout's list have from those on its region.
-use Rattle.std.proofs.Common.{◌≡◌, ℕ, ◌<◌, ◌==◌, Bool, true, false, List, length, arith, refl, sym, ◌∙◌, ap, subst}
+use Rattle.std.proofs.Common.{◌≡◌, ◌≢◌, ℕ, ◌<◌, ◌==◌, Bool, true, false, List, length, arith, refl, sym, ◌∙◌, ap, subst}
 use Rattle.std.specs.Prelude.{Ok, if◌then◌else◌}
 use Rattle.dstm_model.specs.declared.value.Val.{Val}
 use Rattle.dstm_model.specs.declared.layout.Layout.{Layout}
@@ -13,28 +13,28 @@ use Rattle.dstm_model.specs.Objects.{objects_of, Does}
 use Rattle.dstm_model.specs.Store.{Store, Outcome, answer, has_key, with_key, opening_store}
 use Rattle.dstm_mem.specs.declared.memory.Mem.{Ghosts}
 use Rattle.dstm_mem.specs.Operations.{IsReady}
-use Rattle.dstm_mem.specs.Operates.{Operates}
+use Rattle.dstm_mem.specs.Operates.{Applies, Operates}
 use Rattle.dstm_mem.proofs.Operating.{operates-as}
 use Rattle.dstm_region.specs.declared.region.Region.{Region}
 use Rattle.dstm_region.specs.Region.{IsInside, list_region}
 use Rattle.dstm_region.proofs.Layouts.{list-within}
-use Rattle.dstm_list.specs.List.{FitsList, HasKeys, IsList, IsOfList}
-use Rattle.dstm_list.specs.Edits.{Adding, Adds, TakesOut, Tells, adding}
+use Rattle.dstm_list.specs.List.{FitsList, HasKeys, IsList, IsOfList, SameButThree}
+use Rattle.dstm_list.specs.Edits.{Adding, Adds, Calls, TakesOut, Tells, adding}
 use Rattle.dstm_list.specs.Place.{IsReadyIn}
 use Rattle.dstm_list.proofs.Lists.{IsOpening, HasKeys-kept, HasKeys-opening}
 
 -- a list fits in the region of a layout's list, which is within the layout's objects
-pub fits-list : {layout : Layout} → IsValid layout → 0 < layout.list → FitsList (list_region layout)
+fits-list : {layout : Layout} → IsValid layout → 0 < layout.list → FitsList (list_region layout)
 fits-list valid declared = record {
   some = declared;
   few = omega (arith, valid.list);
   numbered = omega (arith, valid.accounts);
 }
 
-pub of-list : (layout : Layout) → 0 < layout.list → (o : ℕ) → IsInside (list_region layout) o → IsOfList layout o
+of-list : (layout : Layout) → 0 < layout.list → (o : ℕ) → IsInside (list_region layout) o → IsOfList layout o
 of-list layout declared o inside = (inside.0, omega (arith, inside.1, list-within layout declared))
 
-pub ready-in : {S E : Type 0} {M : Ghosts S E} (layout : Layout) {memory : S} → 0 < layout.list →
+ready-in : {S E : Type 0} {M : Ghosts S E} (layout : Layout) {memory : S} → 0 < layout.list →
     IsReady M (objects_of layout) (IsList layout) memory → IsReadyIn M (list_region layout) memory
 ready-in layout declared ready = record {
   objects = omega (arith, ready.objects, list-within layout declared);
@@ -45,7 +45,7 @@ ready-in layout declared ready = record {
 }
 
 -- what is done inside the region is done to the layout's list
-pub done-in : {S E : Type 0} {M : Ghosts S E} (layout : Layout) {A B : Type 0} {region : Region} {Q : A → Type 0}
+done-in : {S E : Type 0} {M : Ghosts S E} (layout : Layout) {A B : Type 0} {region : Region} {Q : A → Type 0}
     {Q' T' : B → Type 0} {R : A → List Val → List Val → Type 0} {R' : B → List Val → List Val → Type 0} {old new : S}
     {x : A} {y : B} → region ≡ list_region layout → 0 < layout.list →
     Operates M (IsInside region) Q (λ a. Unit {0}) R old new (Ok x) → (Q' y → Q x) →
@@ -75,7 +75,7 @@ chosen layout store false true more capacity h = (h.0, record { holds = h.1; cap
 chosen layout store false false more capacity h = (h.0, record { holds = h.1; capacity = capacity })
 
 module _ {layout : Layout} {before after : List Val} where
-  pub inserted : (key : ℕ) {reply : Reply} → Adds (list_region layout) key reply before after →
+  inserted : (key : ℕ) {reply : Reply} → Adds (list_region layout) key reply before after →
       Does (IsList layout) (Insert which.List key) before after reply
   inserted key {reply} adds store list =
       chosen layout store (has_key key store.keys) (length store.keys == store.layout.list) (with_key key store.keys)
@@ -83,17 +83,51 @@ module _ {layout : Layout} {before after : List Val} where
       × HasKeys (list_region layout) after (adding n key store.keys).keys) (sym list.capacity)
       (adds store.keys list.holds))
 
-  pub removed : (key : ℕ) {reply : Reply} → TakesOut (list_region layout) key reply before after →
+  removed : (key : ℕ) {reply : Reply} → TakesOut (list_region layout) key reply before after →
       Does (IsList layout) (Remove which.List key) before after reply
   removed key takes store list =
       let (same, holds) = takes store.keys list.holds in
       (same, record { holds = holds; capacity = list.capacity })
 
-  pub told : (key : ℕ) {reply : Reply} → Tells (list_region layout) key reply before after →
+  told : (key : ℕ) {reply : Reply} → Tells (list_region layout) key reply before after →
       Does (IsList layout) (Member which.List key) before after reply
   told key tells store list =
       let (same, holds) = tells store.keys list.holds in
       (same, record { holds = holds; capacity = list.capacity })
+
+-- ---- a call on the region of a layout's list
+
+module _ {S E : Type 0} {M : Ghosts S E} {region : Region} where
+  -- what it asks
+  pub starts : {layout : Layout} {memory : S} → region ≡ list_region layout → IsValid layout → 0 < layout.list →
+      IsReady M (objects_of layout) (IsList layout) memory → FitsList region × IsReadyIn M region memory
+  starts {layout = layout} is valid declared ready = rw is (fits-list valid declared, ready-in layout declared ready)
+
+  pub adds : (layout : Layout) (key : ℕ) {reply : Reply} {old new : S} → region ≡ list_region layout → 0 < layout.list →
+      Calls M region (λ r. r ≢ Yes) (Adds region key) old new (Ok reply) →
+      SameButThree region (M.written old) (M.written new) →
+      Applies M (IsOfList layout) (IsList layout) (Insert which.List key) old new (Ok reply)
+      × SameButThree (list_region layout) (M.written old) (M.written new)
+  adds layout key is declared done few = (
+    done-in layout is declared done (λ look. look) (λ before after h. inserted key (rw is at h)),
+    rw is at few,
+  )
+
+  pub takes : (layout : Layout) (key : ℕ) {reply : Reply} {old new : S} → region ≡ list_region layout → 0 < layout.list →
+      Calls M region (λ r. r ≢ Yes) (TakesOut region key) old new (Ok reply) →
+      SameButThree region (M.written old) (M.written new) →
+      Applies M (IsOfList layout) (IsList layout) (Remove which.List key) old new (Ok reply)
+      × SameButThree (list_region layout) (M.written old) (M.written new)
+  takes layout key is declared done few = (
+    done-in layout is declared done (λ look. look) (λ before after h. removed key (rw is at h)),
+    rw is at few,
+  )
+
+  pub tells : (layout : Layout) (key : ℕ) {reply : Reply} {old new : S} → region ≡ list_region layout → 0 < layout.list →
+      Calls M region (λ r. Unit {0}) (Tells region key) old new (Ok reply) →
+      Applies M (IsOfList layout) (IsList layout) (Member which.List key) old new (Ok reply)
+  tells layout key is declared done =
+      done-in layout is declared done (λ look. tt) (λ before after h. told key (rw is at h))
 
 -- ---- a map in which the list's objects are unchanged, and the opening values
 
