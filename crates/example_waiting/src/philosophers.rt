@@ -1,14 +1,10 @@
 // Five philosophers at a round table with five forks. Each takes the two forks beside it together, or waits.
 use dstm_cells::{Cell, Failed, Memory, Stop, Tx};
-use std::alloc::Global;
 use std::thread::Threads;
 
-/// How often each of them eats.
-const MEALS: u32 = 500;
-
-/// They eat, and this answers how many meals there were and how many forks are held in the end.
-pub fn dine<R: Threads + Sync>(rt: &R, alloc: Global) -> Result<(u64, usize), Failed> {
-    let mut memory = Memory::new(alloc);
+/// Each eats so often. This answers how many meals there were and how many forks are held in the end.
+pub fn dine<R: Threads + Sync>(rt: &R, memory: Memory, often: u32) -> Result<(u64, usize), Failed> {
+    let mut memory = memory;
     let mut forks = [memory.cell(false)?; 5];
     for fork in &mut forks {
         *fork = memory.cell(false)?;
@@ -17,7 +13,7 @@ pub fn dine<R: Threads + Sync>(rt: &R, alloc: Global) -> Result<(u64, usize), Fa
     memory.run(rt, 5, |me, number| {
         let left = forks[number % 5];
         let right = forks[(number % 5 + 1) % 5];
-        for _ in 0..MEALS {
+        for _ in 0..often {
             me.atomically(|tx| {
                 take(tx, left)?;
                 take(tx, right)

@@ -1,21 +1,17 @@
 // A queue of eight places in the cells of a memory.
 use dstm_cells::{Cell, Failed, Memory, Stop, Tx};
-use std::alloc::Global;
 use std::thread::Threads;
 
 // The places.
 const ROOM: u32 = 8;
 
-/// Each producer passes the numbers from 1 to this one.
-const NUMBERS: u64 = 2_000;
-
-/// Two producers pass numbers to two consumers, which add them up.
-pub fn pass_all<R: Threads + Sync>(rt: &R, alloc: Global) -> Result<u64, Failed> {
-    let mut memory = Memory::new(alloc);
+/// Each of two producers passes the numbers from 1 to this one to two consumers, which add them up.
+pub fn pass_all<R: Threads + Sync>(rt: &R, memory: Memory, most: u32) -> Result<u64, Failed> {
+    let mut memory = memory;
     let queue = Queue::new(&mut memory)?;
     let sum = memory.cell(0u64)?;
     memory.run(rt, 4, |me, number| {
-        for item in 1..=NUMBERS {
+        for item in 1..=u64::from(most) {
             if number < 2 {
                 me.atomically(|tx| queue.push(tx, item))?;
             } else {
