@@ -63,7 +63,7 @@ later_short most ops None short is = tt
 later_short most ops (Some a) short is = omega (arith, ap length is.1, length-drop is.0 ops, short)
 
 -- what is among a part of a list is in it
-Contains-taken : {X : Type 0} (n : ℕ) (xs : List X) (x : X) → Contains (take n xs) x → Contains xs x
+pub Contains-taken : {X : Type 0} (n : ℕ) (xs : List X) (x : X) → Contains (take n xs) x → Contains xs x
 Contains-taken {X = X} n xs x has =
     subst (λ (l : List X). Contains l x) (take-append-drop n xs) (Contains-append_left (take n xs) (drop n xs) x has)
 

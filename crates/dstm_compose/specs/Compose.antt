@@ -76,6 +76,15 @@ look_of (cond.Key which key) = Member which key
 abbrev pub IsAwaited : Layout → List Op → ℕ → Type 0
 IsAwaited layout ops o = (c : Cond) × Contains ops (Await c) × Concerns layout (look_of c) o
 
+-- an object that no operation of the job is about, and no condition
+pub record IsForeign (task : JobTask) (o : ℕ) : Type 0 where
+  pub unnamed : All (λ op. ¬ (Concerns task.layout op o)) task.ops
+  pub unawaited : ¬ (IsAwaited task.layout task.ops o)
+
+-- such an object is neither held nor opened for writing
+abbrev pub KeepsOut : JobTask → (held : ℕ → Option Val) → (opened : ℕ → Bool) → Type 0
+KeepsOut task held opened = (o : ℕ) → IsForeign task o → (held o ≡ None) × (opened o ≡ false)
+
 -- of these branches, those up to the first that is open; all, where none is
 abbrev pub up_to_open : Store → List (List Op) → List (List Op)
 up_to_open store [] = []

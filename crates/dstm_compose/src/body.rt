@@ -7,7 +7,7 @@ ghost use Rattle.dstm_mem.specs.Memory.{with_set};
 ghost use Rattle.dstm_mem.specs.Operates.{IsUntouched};
 ghost use Rattle.dstm_mem.specs.Operations.{IsFresh, IsReady, Leads, OnlyReads};
 ghost use Rattle.dstm_store.specs.Whole.{StandsFor, IsLawful};
-ghost use Rattle.dstm_compose.specs.Compose.{IsRight, Audits, AuditsIn, IsAwaited};
+ghost use Rattle.dstm_compose.specs.Compose.{IsRight, Audits, AuditsIn, IsAwaited, IsForeign, KeepsOut};
 
 use crate::branch::open_branch;
 use dstm_mem::{Body, Mem};
@@ -72,7 +72,7 @@ impl CompBody {
 }
 
 impl Body<StoreLaw> for CompBody {
-    ghost use Rattle.dstm_compose.specs.Compose.{IsRight, Audits};
+    ghost use Rattle.dstm_compose.specs.Compose.{IsRight, Audits, KeepsOut};
 
     type Task = JobTask;
 
@@ -86,7 +86,8 @@ impl Body<StoreLaw> for CompBody {
 
     ghost right = { λ body before after. IsRight body.task before after body.outcome };
 
-    ghost leaves = { λ body held opened. (o : ℕ) → Audits body.task body.outcome o → IsSome (held o) };
+    ghost leaves = { λ body held opened. ((o : ℕ) → Audits body.task body.outcome o → IsSome (held o))
+        × KeepsOut body.task held opened };
 
     // The clauses of the trait, that a run which ends blocked has only read, and only what its job's conditions are
     // about, and that a total of the branch that is taken reads every account.
@@ -98,7 +99,8 @@ impl Body<StoreLaw> for CompBody {
             IsLawful self.new.task.layout (with_set map (M.written mem.new))) }
         ensures right { OnOk result ((map : List Val) → M.Admits mem.new map →
             IsRight self.new.task map (with_set map (M.written mem.new)) self.new.outcome) }
-        ensures leaves { OnOk result ((o : ℕ) → Audits self.new.task self.new.outcome o → IsSome (M.held mem.new o)) }
+        ensures leaves { OnOk result (((o : ℕ) → Audits self.new.task self.new.outcome o → IsSome (M.held mem.new o))
+            × KeepsOut self.new.task (M.held mem.new) (M.is_opened mem.new)) }
         ensures law { self.new.task.layout ≡ self.old.task.layout }
         ensures task { self.new.task ≡ self.old.task }
         ensures outcome { IfErr result (λ _. self.new.outcome ≡ self.old.outcome) }
@@ -137,6 +139,8 @@ fn run_job<M: Mem>(mem: &mut M, layout: &Layout, ops: &[Op]) -> Result<Outcome, 
     ensures totals { OnOk result ((map : List Val) → M.Admits mem.new map → (store : Store) →
         StandsFor layout.now (with_set map (M.written mem.old)) store → (o : ℕ) →
         AuditsIn (record { layout = layout.now; ops = ops.now }) store o → IsSome (M.held mem.new o)) }
+    ensures outside { OnOk result ((o : ℕ) → IsForeign (record { layout = layout.now; ops = ops.now }) o →
+        IsUntouched M.Mem o mem.old mem.new) }
 
     ensures leads { Leads M.Mem mem.old mem.new result }
 {

@@ -1,5 +1,6 @@
-ghost use Rattle.std.specs.Prelude.{◌≡◌, ℕ, ◌≤◌, List, length, All, IfOk, OnOk, IfSome, option_copied};
+ghost use Rattle.std.specs.Prelude.{◌≡◌, ℕ, ◌≤◌, Contains, List, length, All, IfOk, OnOk, IfSome, option_copied};
 ghost use Rattle.dstm_model.specs.declared.value.Val.{Val};
+ghost use Rattle.dstm_model.specs.declared.op.Op.{Op};
 ghost use Rattle.dstm_model.specs.Layout.{IsValid, FitsLayout, FitsCond};
 ghost use Rattle.dstm_model.specs.Store.{Store};
 ghost use Rattle.dstm_model.specs.Job.{open_branch, is_open, holds_in, branches_of};
@@ -32,6 +33,7 @@ pub fn open_branch<'a, M: Mem>(
         option_copied branch ≡ open_branch ops.now store) }
     ensures fits { IfOk result (λ branch. IfSome branch (λ ops. All (FitsLayout layout.now) ops.now)) }
     ensures short { IfOk result (λ branch. IfSome branch (λ some. length some.now ≤ length ops.now)) }
+    ensures among { IfOk result (λ branch. IfSome branch (λ some. (x : Op) → Contains some.now x → Contains ops.now x)) }
     ensures looks { OnOk result (OnlyReads M.Mem mem.old mem.new) }
     ensures awaited { OnOk result ((o : ℕ) → ¬ (IsAwaited layout.now ops.now o) →
         IsUntouched M.Mem o mem.old mem.new) }

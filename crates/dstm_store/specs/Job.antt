@@ -1,5 +1,5 @@
 -- What a job does on a map: all its operations in order.
-use Rattle.std.specs.Prelude.{◌≡◌, ◌<◌, ◌≤◌, ℕ, true, List, All, Contains, sum_by}
+use Rattle.std.specs.Prelude.{◌≡◌, ◌<◌, ◌≤◌, ℕ, Bool, true, false, List, All, Contains, Option, None, sum_by}
 use Rattle.dstm_model.specs.declared.value.Val.{Val}
 use Rattle.dstm_model.specs.declared.op.Op.TheVariants.{Total}
 use Rattle.dstm_model.specs.declared.reply.Reply.{Reply}
@@ -7,6 +7,7 @@ use Rattle.dstm_model.specs.Layout.{IsValid, FitsLayout}
 use Rattle.dstm_model.specs.Store.{Store, IsPlain}
 use Rattle.dstm_model.specs.Job.{apply_all}
 use Rattle.dstm_store.specs.declared.job.JobTask.{JobTask}
+use Rattle.dstm_store.specs.Concerns.{Concerns}
 use Rattle.dstm_store.specs.Keeps.{is_of_list, most_kept}
 use Rattle.dstm_store.specs.Whole.{StandsFor}
 
@@ -31,6 +32,14 @@ DoesAll task before after replies =
 -- an account of a job that asks for the total, which reads every account
 abbrev pub Audits : JobTask → ℕ → Type 0
 Audits task account = Contains task.ops Total × (account < task.layout.accounts)
+
+-- an object that none of the job's operations is about
+abbrev pub IsForeign : JobTask → ℕ → Type 0
+IsForeign task o = All (λ op. ¬ (Concerns task.layout op o)) task.ops
+
+-- such an object is neither held nor opened for writing
+abbrev pub KeepsOut : JobTask → (held : ℕ → Option Val) → (opened : ℕ → Bool) → Type 0
+KeepsOut task held opened = (o : ℕ) → IsForeign task o → (held o ≡ None) × (opened o ≡ false)
 
 -- where reads are let go, a job of operations on the list keeps at most what they keep, one by one
 abbrev pub KeepsAtMost : JobTask → ℕ → Type 0

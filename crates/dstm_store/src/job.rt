@@ -5,9 +5,9 @@ ghost use Rattle.dstm_model.specs.Store.{IsPlain};
 ghost use Rattle.dstm_model.specs.Objects.{objects_of};
 ghost use Rattle.dstm_mem.specs.Memory.{with_set, HoldsAtMost};
 ghost use Rattle.dstm_mem.specs.Operations.{IsFresh, IsReady, Leads};
-ghost use Rattle.dstm_mem.specs.Operates.{Applies};
+ghost use Rattle.dstm_mem.specs.Operates.{Applies, IsUntouched};
 ghost use Rattle.dstm_store.specs.Whole.{StandsFor, IsLawful};
-ghost use Rattle.dstm_store.specs.Job.{DoesAll, Audits, KeepsAtMost};
+ghost use Rattle.dstm_store.specs.Job.{DoesAll, Audits, IsForeign, KeepsAtMost, KeepsOut};
 ghost use Rattle.dstm_store.specs.Concerns.{Concerns};
 ghost use Rattle.dstm_store.specs.Keeps.{is_of_list, most_kept, TouchesAtMost};
 
@@ -78,7 +78,7 @@ impl<'a> JobBody<'a> {
 }
 
 impl<'a> Body<StoreLaw> for JobBody<'a> {
-    ghost use Rattle.dstm_store.specs.Job.{DoesAll, Audits};
+    ghost use Rattle.dstm_store.specs.Job.{DoesAll, Audits, KeepsOut};
 
     type Task = JobTask;
 
@@ -92,7 +92,7 @@ impl<'a> Body<StoreLaw> for JobBody<'a> {
 
     ghost right = { λ job before after. DoesAll job.task before after job.replies };
 
-    ghost leaves = { λ job held opened. (o : ℕ) → Audits job.task o → IsSome (held o) };
+    ghost leaves = { λ job held opened. ((o : ℕ) → Audits job.task o → IsSome (held o)) × KeepsOut job.task held opened };
 
     fn run<M: Mem>(&mut self, mem: &mut M) -> Result<(), M::Err> {
         self.replies = run_fresh::<M, KeepsReads>(mem, self.layout, self.ops)?;
@@ -121,6 +121,8 @@ pub(crate) fn run_fresh<M: Mem, L: ListWalk<M>>(
     ensures few { L.lets_go ≡ true → M.all_write (M.place mem.old) ≡ false →
         OnOk result ((most : ℕ) → KeepsAtMost (record { layout = layout.now; ops = ops.now }) most →
         HoldsAtMost most (M.held mem.new)) }
+    ensures outside { OnOk result (KeepsOut (record { layout = layout.now; ops = ops.now }) (M.held mem.new)
+        (M.is_opened mem.new)) }
 
     ensures leads { Leads M.Mem mem.old mem.new result }
 {
@@ -151,6 +153,8 @@ pub fn run_all<M: Mem, L: ListWalk<M>>(
     ensures few { L.lets_go ≡ true → IsFresh M.Mem mem.old → M.all_write (M.place mem.old) ≡ false →
         OnOk result ((most : ℕ) → KeepsAtMost (record { layout = layout.now; ops = ops.now }) most →
         HoldsAtMost most (M.held mem.new)) }
+    ensures outside { OnOk result ((o : ℕ) → IsForeign (record { layout = layout.now; ops = ops.now }) o →
+        IsUntouched M.Mem o mem.old mem.new) }
 
     ensures leads { Leads M.Mem mem.old mem.new result }
 {

@@ -58,7 +58,7 @@ impl LooseJobBody {
 }
 
 impl LooseBody<StoreLaw> for LooseJobBody {
-    ghost use Rattle.dstm_store.specs.Job.{DoesAll, Audits, KeepsAtMost};
+    ghost use Rattle.dstm_store.specs.Job.{DoesAll, Audits, KeepsAtMost, KeepsOut};
 
     type Task = JobTask;
 
@@ -72,7 +72,7 @@ impl LooseBody<StoreLaw> for LooseJobBody {
 
     ghost right = { λ job before after. DoesAll job.task before after job.replies };
 
-    ghost leaves = { λ job held opened. (o : ℕ) → Audits job.task o → IsSome (held o) };
+    ghost leaves = { λ job held opened. ((o : ℕ) → Audits job.task o → IsSome (held o)) × KeepsOut job.task held opened };
 
     ghost keeps_at_most = { λ job. KeepsAtMost job.task };
 

@@ -1,14 +1,18 @@
-use Rattle.std.proofs.Common.{List, sym, ◌∙◌, ap, subst, option_copied, Bor}
-use Rattle.std.specs.Prelude.{Ok, Option, Contains, IsSomeAnd}
-use Rattle.std.proofs.lemmas.List.Elements.{All-contains}
+use Rattle.std.proofs.Common.{List, ℕ, sym, ◌∙◌, ap, subst, option_copied, Bor}
+use Rattle.std.specs.Prelude.{Ok, Option, Contains, IfSome, IsSomeAnd}
+use Rattle.std.proofs.lemmas.List.Elements.{All-contains, All-contains_itself, All-weaker}
+use Rattle.dstm_model.specs.declared.layout.Layout.{Layout}
 use Rattle.dstm_model.specs.declared.value.Val.{Val}
 use Rattle.dstm_model.specs.declared.op.Op.{Op}
 use Rattle.dstm_model.specs.declared.op.Op.TheVariants.{Total}
 use Rattle.dstm_model.specs.Job.{is_open, branches_of}
 use Rattle.dstm_mem.specs.Memory.{with_set}
+use Rattle.dstm_mem.proofs.Operating.{untouched-then}
 use Rattle.dstm_mem.proofs.Operations.{ready-reads}
 use Rattle.dstm_mem.proofs.WithSet.{with_set-same}
-use Rattle.dstm_store.specs.Job.{DoesAll}
+use Rattle.dstm_store.specs.Concerns.{Concerns}
+use Rattle.dstm_store.specs.Job.{DoesAll, IsForeign}
+use Rattle.dstm_compose.specs.Compose as compose
 use Rattle.dstm_compose.proofs.Branches.{Contains-found}
 use Rattle.dstm_compose.proofs.Runs.{right-ran, right-blocked}
 use Rattle.dstm_compose.proofs.body.run_job.Goals as goal
@@ -62,6 +66,26 @@ returns-in_ok-replies-in-Some-clause-totals g c map admitted store stands o audi
     let taken = sym (found.found map (ran.leads.narrows map admitted) store stands)
     ∙ ap (λ (b : Option (Bor (List Op))). option_copied b) c.in-Some.is in
     ran.audits o (subst AsksTotal taken audits.0, audits.1)
+
+-- what no operation of the job is about no operation of the branch is about
+foreign-in : (layout : Layout) (ops branch : List Op) (o : ℕ) → ((x : Op) → Contains branch x → Contains ops x) →
+    compose.IsForeign (record { layout = layout; ops = ops }) o → IsForeign (record { layout = layout; ops = branch }) o
+foreign-in layout ops branch o among foreign =
+    All-weaker (Contains branch) (λ (op : Op). ¬ (Concerns layout op o))
+    (λ op has. All-contains (λ (op : Op). ¬ (Concerns layout op o)) ops op foreign.unnamed (among op has)) branch
+    (All-contains_itself branch)
+
+pub returns-in_ok-replies-in-Some-clause-outside : goal.returns-in_ok-replies-in-Some-clause-outside
+returns-in_ok-replies-in-Some-clause-outside g c o foreign =
+    let found = c.in_ok-branch.ensures in
+    let among = subst (λ (b : Option (Bor (List Op))). IfSome b (λ some. (x : Op) → Contains some.now x → Contains c.args.ops.now x))
+    c.in-Some.is found.among in
+    untouched-then g.M.Mem (found.awaited o foreign.unawaited)
+    (c.in_ok-replies-in-Some.ensures.outside o
+    (foreign-in c.args.layout.now c.args.ops.now c.in-Some.branch.now o among foreign))
+
+pub returns-in-None-clause-outside : goal.returns-in-None-clause-outside
+returns-in-None-clause-outside g c o foreign = c.in_ok-branch.ensures.awaited o foreign.unawaited
 
 pub returns-in-None-clause-totals : goal.returns-in-None-clause-totals
 returns-in-None-clause-totals g c map admitted store stands o audits =

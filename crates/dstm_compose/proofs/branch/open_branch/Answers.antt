@@ -1,5 +1,5 @@
 use Rattle.std.proofs.Common.{◌≤◌, List, length, option_copied, sym, ◌∙◌, ap, subst, Bor}
-use Rattle.std.specs.Prelude.{Ok, Option, IfSome, All}
+use Rattle.std.specs.Prelude.{Ok, Option, IfSome, All, Contains}
 use Rattle.std.specs.List.{find}
 use Rattle.dstm_model.specs.declared.value.Val.{Val}
 use Rattle.dstm_model.specs.declared.op.Op.{Op}
@@ -9,7 +9,7 @@ use Rattle.dstm_mem.proofs.Operations.{leads-answers, leads-then, only_reads-the
 use Rattle.dstm_mem.proofs.Operating.{untouched-then}
 use Rattle.dstm_mem.proofs.WithSet.{with_set-same}
 use Rattle.dstm_store.specs.Whole.{StandsFor}
-use Rattle.dstm_compose.proofs.Branches.{AreOf, found-open, found-later, later_fits, later_short, later_among}
+use Rattle.dstm_compose.proofs.Branches.{AreOf, Contains-taken, found-open, found-later, later_fits, later_short, later_among}
 use Rattle.dstm_compose.proofs.Branches.{awaited_of-branch, first-tried, later-tried}
 use Rattle.dstm_compose.proofs.branch.open_branch.Goals as goal
 
@@ -89,6 +89,12 @@ returns-then-branch-clause-awaited g c o apart =
     (c.in_ok-is_open.ensures.awaited o (λ awaits. apart
     (awaited_of-branch c.args.layout.now c.args.ops.now c.in-Some.ops.now c.first_branch.result.0.now o
     (subst (AreOf c.args.ops.now) c.in-Some.is so_far.among) c.first_branch.ensures.first awaits)))
+
+pub returns-then-branch-clause-among : goal.returns-then-branch-clause-among
+returns-then-branch-clause-among g c x has =
+    let left = subst (AreOf c.args.ops.now) c.in-Some.is c.loop-rest.invariant.among in
+    let first = c.first_branch.ensures.first in
+    left x (Contains-taken first.0 c.in-Some.ops.now x (subst (λ (l : List Op). Contains l x) first.1 has))
 
 pub returns-then-branch-clause-first : goal.returns-then-branch-clause-first
 returns-then-branch-clause-first g c map admitted store stands o apart =

@@ -7,8 +7,10 @@ use Rattle.std.proofs.lemmas.List.Elements.{All-get_or, Contains-push_cases}
 use Rattle.dstm_model.specs.declared.op.Op.TheVariants.{Transfer, Total}
 use Rattle.dstm_model.specs.declared.reply.Reply.{Reply}
 use Rattle.dstm_mem.specs.Memory.{with_set}
+use Rattle.dstm_mem.proofs.Operating.{untouched-then}
 use Rattle.dstm_mem.proofs.Operations.{leads-answers, leads-then}
 use Rattle.dstm_store.specs.declared.job.JobTask.{JobTask}
+use Rattle.dstm_store.specs.Concerns.{Concerns}
 use Rattle.dstm_store.specs.Job.{DoesAll}
 use Rattle.dstm_store.specs.Keeps.{is_of_list, most_kept, TouchesAtMost}
 use Rattle.dstm_store.proofs.Few.{touches-then, holds-touched}
@@ -56,6 +58,9 @@ loop-op-preserved g c =
           subst (λ n. TouchesAtMost n M old new) (sym (sum_by_more most_kept task.ops i some_op below))
           (touches-then M so_many (most_kept (get_or task.ops i some_op)) (so_far.few lets reads all)
           (ran.touches lets (ap M.all_write so_far.leads.place ∙ reads) is));
+      outside = λ o foreign.
+          untouched-then M (so_far.outside o foreign)
+          (ran.applies.outside o (All-get_or (λ op. ¬ (Concerns c.args.layout.now op o)) task.ops i some_op below foreign));
     }
 
 pub returns-clause-few : goal.returns-clause-few

@@ -3,9 +3,10 @@ use Rattle.std.specs.Prelude.{Ok, IsSome, Contains, All, sum_by}
 use Rattle.dstm_model.specs.declared.op.Op.TheVariants.{Total}
 use Rattle.dstm_model.specs.declared.value.Val.{Val}
 use Rattle.dstm_mem.specs.Memory.{with_set}
+use Rattle.dstm_mem.specs.Operates.{IsUntouched}
 use Rattle.dstm_mem.specs.Operations.{Leads}
 use Rattle.dstm_store.specs.Whole.{IsLawful}
-use Rattle.dstm_store.specs.Job.{DoesAll}
+use Rattle.dstm_store.specs.Job.{DoesAll, IsForeign}
 use Rattle.dstm_store.specs.Keeps.{is_of_list, most_kept, TouchesAtMost}
 use Rattle.dstm_store.proofs.Jobs.{up_to}
 use Rattle.dstm_store.proofs.job.run_all.Given as goal
@@ -25,4 +26,5 @@ invariant-loop-op g l = record {
   few : g.L.ListWalk.lets_go ≡ true → g.M.Mem.all_write (g.M.Mem.place l.fn.mem) ≡ false →
       All (λ op. is_of_list op ≡ true) l.ops →
       TouchesAtMost (sum_by most_kept (take l.op-index l.ops)) g.M.Mem l.fn.mem l.mem;
+  outside : (o : ℕ) → IsForeign (record { layout = l.layout; ops = l.ops }) o → IsUntouched g.M.Mem o l.fn.mem l.mem;
 }

@@ -1,10 +1,17 @@
-use Rattle.std.proofs.Common.{List, subst}
+use Rattle.std.proofs.Common.{◌∙◌, List, subst, sym}
 use Rattle.dstm_model.specs.declared.value.Val.{Val}
 use Rattle.dstm_model.specs.declared.op.Op.{Op}
 use Rattle.dstm_mem.specs.Memory.{with_set}
-use Rattle.dstm_store.specs.Job.{DoesAll}
+use Rattle.dstm_store.specs.Job.{DoesAll, IsForeign}
 use Rattle.dstm_store.proofs.Bodies.{of-fresh}
 use Rattle.dstm_store.proofs.job.run_fresh.Goals as goal
+
+pub returns-clause-outside : goal.returns-clause-outside
+returns-clause-outside g c o foreign =
+    let layout = c.args.layout.now in
+    let was = c.in_ok-replies.ensures.outside o
+    (subst (λ (ops : List Op). IsForeign (record { layout = layout; ops = ops }) o) (sym c.as_slice.ensures.value) foreign) in
+    (was.held ∙ c.requires.fresh.unread o, was.opened ∙ c.requires.fresh.unopened o)
 
 pub returns-clause-right : goal.returns-clause-right
 returns-clause-right g c map admitted =
