@@ -130,7 +130,8 @@ static inline dstm_code dstm_memory_new(dstm_memory *memory, uint32_t threads, d
 static inline dstm_code dstm_memory_free(dstm_memory *memory) {
     return DSTM_CALL(memory, dstmc_memory_free(memory));
 }
-/* A new cell; at most 524,288, while no thread has a part. BUSY, FULL, MEMORY, CLOSED. */
+/* A new cell; at most 524,288, while no thread has a part: later ones come out of a pool (dstm_pool_new). BUSY, FULL,
+   MEMORY, CLOSED. */
 static inline dstm_code dstm_cell_new(dstm_memory *memory, uint64_t low, uint64_t high, dstm_cell *cell) {
     return DSTM_CALL(memory && cell, dstmc_cell_new(memory, low, high, cell));
 }
@@ -247,6 +248,111 @@ static inline dstm_code dstm_atomically_for(dstm_thread *me, uint32_t looks, dst
 /* The same with 1,048,576 looks. */
 static inline dstm_code dstm_atomically(dstm_thread *me, dstm_body body, void *with) {
     return dstm_atomically_for(me, 1048576, body, with);
+}
+
+/* STRUCTURES, made of cells. A call on one is a part of the transaction under way, and copies of its name name
+   the same one. The program sets none of their cells by itself. */
+
+/* A queue of pairs of words: the first one in is the first one out. */
+typedef struct dstm_queue { dstm_cell ends; uint32_t capacity; } dstm_queue;
+
+/* A new queue, which has room for so many, at least 1. It takes as many cells and one more; where one of them is not
+   made, those before it stay. RANGE, and what dstm_cell_new answers. */
+static inline dstm_code dstm_queue_new(dstm_memory *memory, uint32_t capacity, dstm_queue *queue) {
+    dstm_queue made = {0, 0};
+    dstm_cell place = 0;
+    dstm_code code;
+    if (!queue) return DSTM_NULL;
+    if (!capacity) return DSTM_RANGE;
+    code = dstm_cell_new(memory, 0, 0, &made.ends); /* how many were taken out, and how many were put in */
+    for (; !code && made.capacity < capacity; made.capacity++) code = dstm_cell_new(memory, 0, 0, &place);
+    if (!code) *queue = made;
+    return code;
+}
+static inline dstm_cell dstm_queue_place(dstm_queue queue, uint64_t n) {
+    return queue.ends + 1 + (uint32_t)(queue.capacity ? n % queue.capacity : 0);
+}
+/* How many it has. */
+static inline dstm_code dstm_queue_len(dstm_thread *me, dstm_queue queue, uint64_t *length) {
+    uint64_t out = 0, in = 0;
+    dstm_code code = length ? dstm_get(me, queue.ends, &out, &in) : DSTM_NULL;
+    if (!code) *length = in - out;
+    return code;
+}
+/* Puts one at the end. RETRY, where it is full: nothing is set then. */
+static inline dstm_code dstm_queue_push(dstm_thread *me, dstm_queue queue, uint64_t low, uint64_t high) {
+    uint64_t out = 0, in = 0;
+    dstm_code code = dstm_get(me, queue.ends, &out, &in);
+    if (code) return code;
+    if (in - out >= queue.capacity) return DSTM_RETRY;
+    code = dstm_set(me, dstm_queue_place(queue, in), low, high);
+    return code ? code : dstm_set(me, queue.ends, out, in + 1);
+}
+static inline dstm_code dstm_queue_push_u64(dstm_thread *me, dstm_queue queue, uint64_t low) {
+    return dstm_queue_push(me, queue, low, 0);
+}
+/* Tells the first one. RETRY, where it is empty. */
+static inline dstm_code dstm_queue_front(dstm_thread *me, dstm_queue queue, uint64_t *low, uint64_t *high) {
+    uint64_t out = 0, in = 0;
+    dstm_code code = dstm_get(me, queue.ends, &out, &in);
+    if (code) return code;
+    return in == out ? DSTM_RETRY : dstm_get(me, dstm_queue_place(queue, out), low, high);
+}
+/* Takes the first one. RETRY, where it is empty: nothing is set then. */
+static inline dstm_code dstm_queue_pop(dstm_thread *me, dstm_queue queue, uint64_t *low, uint64_t *high) {
+    uint64_t out = 0, in = 0;
+    dstm_code code = dstm_get(me, queue.ends, &out, &in);
+    if (code) return code;
+    if (in == out) return DSTM_RETRY;
+    code = dstm_get(me, dstm_queue_place(queue, out), low, high);
+    return code ? code : dstm_set(me, queue.ends, out + 1, in);
+}
+static inline dstm_code dstm_queue_pop_u64(dstm_thread *me, dstm_queue queue, uint64_t *low) {
+    uint64_t high = 0;
+    return dstm_queue_pop(me, queue, low, &high);
+}
+
+/* A pool of cells, out of which transactions take new cells while threads have parts, and give them back. */
+typedef struct dstm_pool { dstm_cell first; uint32_t cells; } dstm_pool;
+
+/* A new pool of so many cells, at least 1. It takes one more; where one of them is not made, those before it stay.
+   RANGE, and what dstm_cell_new answers. */
+static inline dstm_code dstm_pool_new(dstm_memory *memory, uint32_t cells, dstm_pool *pool) {
+    dstm_pool made = {0, 0};
+    dstm_cell cell = 0;
+    dstm_code code;
+    if (!pool) return DSTM_NULL;
+    if (!cells) return DSTM_RANGE;
+    /* the last one that was given back, each of which names the one before; and how many were ever taken */
+    code = dstm_cell_new(memory, 0, 0, &made.first);
+    for (; !code && made.cells < cells; made.cells++) code = dstm_cell_new(memory, 0, 0, &cell);
+    if (!code) *pool = made;
+    return code;
+}
+/* Takes a cell, which holds this. It is taken where the transaction takes effect. RETRY, where all are taken: nothing
+   is set then. */
+static inline dstm_code dstm_pool_take(dstm_thread *me, dstm_pool pool, uint64_t low, uint64_t high, dstm_cell *cell) {
+    uint64_t back = 0, taken = 0, before = 0, none = 0;
+    dstm_cell found;
+    dstm_code code = cell ? dstm_get(me, pool.first, &back, &taken) : DSTM_NULL;
+    if (code) return code;
+    if (!back && taken >= pool.cells) return DSTM_RETRY;
+    found = pool.first + (uint32_t)(back ? back : taken + 1);
+    if (back) code = dstm_get(me, found, &before, &none);
+    if (!code) code = dstm_set(me, pool.first, before, back ? taken : taken + 1);
+    if (!code) code = dstm_set(me, found, low, high);
+    if (!code) *cell = found;
+    return code;
+}
+/* Gives a cell back, which was taken out of this pool and not given back since: that nothing checks. FOREIGN, where the
+   pool has no such cell. */
+static inline dstm_code dstm_pool_give(dstm_thread *me, dstm_pool pool, dstm_cell cell) {
+    uint64_t back = 0, taken = 0;
+    dstm_code code = dstm_get(me, pool.first, &back, &taken);
+    if (code) return code;
+    if (cell <= pool.first || cell - pool.first > pool.cells) return DSTM_FOREIGN;
+    code = dstm_set(me, cell, back, 0);
+    return code ? code : dstm_set(me, pool.first, cell - pool.first, taken);
 }
 
 #ifdef __cplusplus

@@ -5,25 +5,18 @@
 #define ROOM 8
 #define EACH 1000
 static dstm_thread parts[4];
-static dstm_cell ends, slots[ROOM]; /* the two words of ends: how many were taken out, and how many were put in */
+static dstm_queue queue;
 static uint64_t got[2][EACH];
 
 static dstm_code put(dstm_thread *me, void *with) {
-    uint64_t out = 0, in = 0;
-    dstm_code code = dstm_get(me, ends, &out, &in);
-    if (code) return code;
-    if (in - out == ROOM) return DSTM_RETRY;
-    if ((code = dstm_set_u64(me, slots[in % ROOM], *(uint64_t *)with))) return code;
-    return dstm_set(me, ends, out, in + 1);
+    uint64_t *number = with;
+    return dstm_queue_push(me, queue, *number, *number + 1);
 }
 
 static dstm_code take(dstm_thread *me, void *with) {
-    uint64_t out = 0, in = 0;
-    dstm_code code = dstm_get(me, ends, &out, &in);
-    if (code) return code;
-    if (in == out) return DSTM_RETRY;
-    if ((code = dstm_get_u64(me, slots[out % ROOM], with))) return code;
-    return dstm_set(me, ends, out + 1, in);
+    uint64_t *number = with, after = 0;
+    dstm_code code = dstm_queue_pop(me, queue, number, &after);
+    return code ? code : after == *number + 1 ? DSTM_OK : DSTM_RANGE;
 }
 
 /* Waits again where nothing has changed for long, as on a machine that does much else. */
@@ -51,20 +44,51 @@ static void *consumer(void *arg) {
     return NULL;
 }
 
+/* One thread alone: the first one in is the first one out, and a full one and an empty one are left as they are. */
+static void alone(dstm_thread *me) {
+    uint64_t low = 0, high = 0, length = 9, i;
+    IS(DSTM_OK, dstm_begin(me));
+    IS(DSTM_OK, dstm_queue_len(me, queue, &length));
+    IS(0, length);
+    IS(DSTM_RETRY, dstm_queue_front(me, queue, &low, &high));
+    IS(DSTM_RETRY, dstm_queue_pop_u64(me, queue, &low));
+    for (i = 0; i < ROOM; i++) IS(DSTM_OK, dstm_queue_push_u64(me, queue, i));
+    IS(DSTM_RETRY, dstm_queue_push_u64(me, queue, i));
+    IS(DSTM_OK, dstm_queue_len(me, queue, &length));
+    IS(ROOM, length);
+    for (i = 0; i < ROOM; i++) {
+        IS(DSTM_OK, dstm_queue_front(me, queue, &low, &high));
+        IS(i, low);
+        IS(DSTM_OK, dstm_queue_pop_u64(me, queue, &low));
+        IS(i, low);
+    }
+    IS(DSTM_RETRY, dstm_queue_pop_u64(me, queue, &low));
+    IS(DSTM_NULL, dstm_queue_len(me, queue, NULL));
+    IS(DSTM_OK, dstm_commit(me));
+}
+
 static void test(dstm_engine engine) {
     static unsigned char seen[2 * EACH];
     dstm_memory memory = DSTM_ZERO;
     void *(*works[4])(void *) = {producer, producer, consumer, consumer};
-    uint64_t number;
-    int i, k;
+    uint64_t number, last[2];
+    int i, k, of;
     memset(seen, 0, sizeof seen);
     IS(DSTM_OK, dstm_memory_new(&memory, 4, engine));
-    IS(DSTM_OK, dstm_cell_new(&memory, 0, 0, &ends));
-    for (i = 0; i < ROOM; i++) IS(DSTM_OK, dstm_cell_new_u64(&memory, 0, &slots[i]));
+    IS(DSTM_RANGE, dstm_queue_new(&memory, 0, &queue));
+    IS(DSTM_NULL, dstm_queue_new(&memory, 1, NULL));
+    IS(DSTM_OK, dstm_queue_new(&memory, ROOM, &queue));
     for (i = 0; i < 4; i++) IS(DSTM_OK, dstm_thread_new(&memory, &parts[i]));
+    alone(&parts[0]);
     run_all(4, parts, works);
     for (i = 0; i < 2; i++) {
-        for (k = 0; k < EACH; k++) IS(0, seen[got[i][k]]++);
+        last[0] = last[1] = 0;
+        for (k = 0; k < EACH; k++) {
+            IS(0, seen[got[i][k]]++);
+            of = got[i][k] >= EACH; /* what one producer has put in comes in its order */
+            IS(1, got[i][k] >= last[of]);
+            last[of] = got[i][k];
+        }
     }
     for (k = 0; k < 2 * EACH; k++) IS(1, seen[k]);
     /* it is empty, and nobody puts anything in */
