@@ -83,16 +83,22 @@
 //! ```compile_fail,E0277
 //! dstm::Memory::new(1).unwrap().cell(String::new()).unwrap();
 //! ```
+//!
+//! Without the feature `std` the crate wants `core` alone. A thread that waits then spins, where it yields else.
+#![cfg_attr(not(feature = "std"), no_std)]
 #![deny(unsafe_op_in_unsafe_fn, missing_docs)]
 
-use std::cell::Cell as Plain;
-use std::fmt::{Debug, Display, Formatter};
-use std::marker::PhantomData;
-use std::mem::forget;
-use std::ptr::null_mut;
-use std::sync::atomic::{AtomicU64, Ordering};
-use std::sync::{Mutex, MutexGuard, PoisonError};
-use std::thread::yield_now;
+mod lock;
+mod structures;
+
+use core::cell::Cell as Plain;
+use core::fmt::{Debug, Display, Formatter};
+use core::marker::PhantomData;
+use core::mem::forget;
+use core::ptr::null_mut;
+use core::sync::atomic::{AtomicU64, Ordering};
+use lock::{give_way, Lock};
+pub use structures::{Pool, Queue};
 
 // What `dstm.h` calls dstm_memory and dstm_thread.
 #[repr(C)]
@@ -140,26 +146,26 @@ pub enum Error {
     Full,
     /// There is not enough memory.
     Memory,
-    /// There have to be from 1 to 63 threads.
+    /// A number is out of its range: there have to be from 1 to 63 threads, and at least 1 place in a queue or a pool.
     Range,
     /// The closure retried, and nothing that it has read has changed for long.
     Idle,
 }
 
 impl Display for Error {
-    fn fmt(&self, f: &mut Formatter<'_>) -> std::fmt::Result {
+    fn fmt(&self, f: &mut Formatter<'_>) -> core::fmt::Result {
         f.write_str(match self {
             Error::Spent => "the attempts of the part are used up",
             Error::Foreign => "the cell is one of another memory",
             Error::Full => "the memory has no room for it",
             Error::Memory => "out of memory",
-            Error::Range => "there have to be from 1 to 63 threads",
+            Error::Range => "a number is out of its range",
             Error::Idle => "a transaction waited in vain",
         })
     }
 }
 
-impl std::error::Error for Error {}
+impl core::error::Error for Error {}
 
 /// Why a closure cannot go on with its transaction: it hands it out, by `?`.
 #[derive(Clone, Copy, Debug, PartialEq, Eq)]
@@ -294,18 +300,50 @@ impl<T> Clone for Cell<T> {
 impl<T> Copy for Cell<T> {}
 
 impl<T> Debug for Cell<T> {
-    fn fmt(&self, f: &mut Formatter<'_>) -> std::fmt::Result {
+    fn fmt(&self, f: &mut Formatter<'_>) -> core::fmt::Result {
         write!(f, "Cell({}, {})", self.memory, self.object)
     }
 }
 
+impl<T> PartialEq for Cell<T> {
+    fn eq(&self, other: &Self) -> bool {
+        (self.memory, self.object) == (other.memory, other.object)
+    }
+}
+
+impl<T> Eq for Cell<T> {}
+
+// A cell may name another one, or none.
+impl<T> Word for Cell<T> {
+    fn to_words(self) -> (u64, u64) {
+        (self.memory, self.object.into())
+    }
+    fn from_words(memory: u64, object: u64) -> Self {
+        Cell {
+            memory,
+            object: object as u32,
+            holds: PhantomData,
+        }
+    }
+}
+
+impl<T> Word for Option<Cell<T>> {
+    fn to_words(self) -> (u64, u64) {
+        self.map_or((0, 0), Cell::to_words)
+    }
+    fn from_words(memory: u64, object: u64) -> Self {
+        (memory != 0).then(|| Cell::from_words(memory, object))
+    }
+}
+
+// No memory has the number 0.
 static MEMORIES: AtomicU64 = AtomicU64::new(1);
 
 /// Cells that the transactions of threads may change.
 pub struct Memory {
     id: u64,
     // One call on it at a time.
-    handle: Mutex<Handle>,
+    handle: Lock,
 }
 
 impl Memory {
@@ -322,19 +360,15 @@ impl Memory {
         done(unsafe { dstmc_memory_new(&mut handle, threads, engine as u32) })?;
         Ok(Memory {
             id: MEMORIES.fetch_add(1, Ordering::Relaxed),
-            handle: Mutex::new(handle),
+            handle: Lock::new(handle),
         })
-    }
-
-    fn lock(&self) -> MutexGuard<'_, Handle> {
-        self.handle.lock().unwrap_or_else(PoisonError::into_inner)
     }
 
     /// A new cell. There are at most 524,288.
     pub fn cell<T: Word>(&mut self, value: T) -> Result<Cell<T>, Error> {
         let (low, high) = value.to_words();
         let mut object = 0;
-        done(unsafe { dstmc_cell_new(&mut self.lock(), low, high, &mut object) })?;
+        done(unsafe { dstmc_cell_new(&mut self.handle.lock(), low, high, &mut object) })?;
         Ok(Cell {
             memory: self.id,
             object,
@@ -348,7 +382,7 @@ impl Memory {
             return Err(Error::Foreign);
         }
         let (mut low, mut high) = (0, 0);
-        done(unsafe { dstmc_peek(&mut self.lock(), cell.object, &mut low, &mut high) })?;
+        done(unsafe { dstmc_peek(&mut self.handle.lock(), cell.object, &mut low, &mut high) })?;
         Ok(T::from_words(low, high))
     }
 
@@ -356,7 +390,7 @@ impl Memory {
     /// out since a moment at which no thread had one.
     pub fn thread(&self) -> Result<Thread<'_>, Error> {
         let mut handle = CLOSED;
-        done(unsafe { dstmc_thread_new(&mut self.lock(), &mut handle) })?;
+        done(unsafe { dstmc_thread_new(&mut self.handle.lock(), &mut handle) })?;
         Ok(Thread {
             memory: self,
             handle,
@@ -367,7 +401,7 @@ impl Memory {
 
 impl Drop for Memory {
     fn drop(&mut self) {
-        let _ = unsafe { dstmc_memory_free(&mut self.lock()) };
+        let _ = unsafe { dstmc_memory_free(&mut self.handle.lock()) };
     }
 }
 
@@ -424,7 +458,7 @@ impl<'m> Thread<'m> {
 
     // Takes another part in the place of one that is spent.
     fn renew(&mut self) -> Result<(), Error> {
-        let mut memory = self.memory.lock();
+        let mut memory = self.memory.handle.lock();
         let _ = unsafe { dstmc_thread_free(&mut self.handle) };
         match unsafe { dstmc_thread_new(&mut memory, &mut self.handle) } {
             FULL => Err(Error::Spent),
@@ -463,7 +497,7 @@ impl<'m> Tx<'_, 'm> {
     // another part.
     fn wait(&mut self) -> Result<(), Error> {
         for _ in 0..LOOKS {
-            yield_now();
+            give_way();
             match unsafe { dstmc_look(&mut self.thread.handle) } {
                 DONE => {}
                 AGAIN | SPENT => return Ok(()),

@@ -185,42 +185,118 @@ fn each_number_comes_out_of_a_bounded_queue_once() {
     const EACH: u64 = 400;
     for engine in ENGINES {
         let mut memory = Memory::with_engine(4, engine).unwrap();
-        // How many were taken out, and how many were put in.
-        let ends = memory.cell((0u64, 0u64)).unwrap();
-        let slots: Vec<Cell<u64>> = (0..8).map(|_| memory.cell(0u64).unwrap()).collect();
-        let slots = &slots[..];
-        let mut seen = scope(|s| {
+        let queue = memory.queue(8).unwrap();
+        let seen = scope(|s| {
             for first in [0, EACH] {
                 let mut me = memory.thread().unwrap();
                 s.spawn(move || {
                     for n in first..first + EACH {
-                        wait_for(&mut me, |tx| {
-                            let (out, put) = tx.get(ends)?;
-                            tx.ensure(put - out < 8)?;
-                            tx.set(slots[put as usize % 8], n)?;
-                            tx.set(ends, (out, put + 1))
-                        });
+                        wait_for(&mut me, |tx| queue.push(tx, n));
                     }
                 });
             }
             let consumers = [(); 2].map(|()| {
                 let mut me = memory.thread().unwrap();
                 s.spawn(move || -> Vec<u64> {
-                    let mut take = || {
-                        wait_for(&mut me, |tx| {
-                            let (out, put) = tx.get(ends)?;
-                            tx.ensure(out < put)?;
-                            tx.set(ends, (out + 1, put))?;
-                            tx.get(slots[out as usize % 8])
-                        })
-                    };
-                    (0..EACH).map(|_| take()).collect()
+                    (0..EACH).map(|_| wait_for(&mut me, |tx| queue.pop(tx))).collect()
                 })
             });
-            consumers.map(|it| it.join().unwrap()).concat()
+            consumers.map(|it| it.join().unwrap())
         });
-        seen.sort_unstable();
-        assert_eq!(seen, (0..2 * EACH).collect::<Vec<u64>>());
+        // What one producer has put in comes out in its order.
+        for taken in &seen {
+            for of in [0..EACH, EACH..2 * EACH] {
+                assert!(taken.iter().filter(|n| of.contains(n)).is_sorted());
+            }
+        }
+        let mut all = seen.concat();
+        all.sort_unstable();
+        assert_eq!(all, (0..2 * EACH).collect::<Vec<u64>>());
+    }
+}
+
+#[test]
+fn the_first_one_into_a_queue_is_the_first_one_out() {
+    let mut memory = Memory::new(1).unwrap();
+    assert_eq!(memory.queue::<u64>(0).err(), Some(Error::Range));
+    let queue = memory.queue::<Option<u64>>(3).unwrap();
+    assert_eq!(queue.capacity(), 3);
+    let mut me = memory.thread().unwrap();
+    for round in 0..5 {
+        let ends = me.atomically(|tx| {
+            assert_eq!((queue.len(tx)?, queue.front(tx)?, queue.try_pop(tx)?), (0, None, None));
+            for n in 0..3 {
+                queue.push(tx, Some(round + n))?;
+            }
+            assert!(!queue.try_push(tx, None)?);
+            assert_eq!((queue.len(tx)?, queue.front(tx)?), (3, Some(Some(round))));
+            // What is put in by an alternative that retries is not there.
+            tx.or_else(
+                |tx| {
+                    queue.pop(tx)?;
+                    queue.push(tx, None)?;
+                    queue.push(tx, None)
+                },
+                |_| Ok(()),
+            )?;
+            assert_eq!((queue.pop(tx)?, queue.pop(tx)?), (Some(round), Some(round + 1)));
+            queue.pop(tx)
+        });
+        assert_eq!(ends, Ok(Some(round + 2)));
+    }
+}
+
+#[test]
+fn no_cell_of_a_pool_is_in_two_places_or_lost() {
+    type Node = (u64, u64);
+    const CELLS: u32 = 5;
+    for engine in ENGINES {
+        let mut memory = Memory::with_engine(3, engine).unwrap();
+        let pool = memory.pool::<Node>(CELLS).unwrap();
+        // The cells that were taken, with a number in each.
+        let slots: Vec<Cell<u64>> = (0..CELLS).map(|_| memory.cell(0u64).unwrap()).collect();
+        let other = memory.pool::<Node>(1).unwrap();
+        let mut cells = vec![];
+        {
+            let mut me = memory.thread().unwrap();
+            for n in 0..u64::from(CELLS) {
+                cells.push(me.atomically(|tx| pool.take(tx, (n, n + 1))).unwrap());
+            }
+            assert!(me.atomically(|tx| pool.try_take(tx, (0, 0))).unwrap().is_none());
+            let (cell, foreign) = (cells[0], me.atomically(|tx| other.take(tx, (0, 0))).unwrap());
+            assert_eq!(me.atomically(|tx| pool.give(tx, foreign)), Err(Error::Foreign));
+            assert_eq!(me.atomically(|tx| other.give(tx, cell)), Err(Error::Foreign));
+            for (n, cell) in (0..).zip(&cells) {
+                assert_eq!(me.atomically(|tx| tx.get(*cell)), Ok((n, n + 1)));
+                me.atomically(|tx| pool.give(tx, *cell)).unwrap();
+            }
+        }
+        let (cells, slots) = (&cells[..], &slots[..]);
+        scope(|s| {
+            for number in 1..=3u64 {
+                let mut me = memory.thread().unwrap();
+                s.spawn(move || {
+                    for _ in 0..500 {
+                        let taken = wait_for(&mut me, |tx| {
+                            let cell = pool.take(tx, (number, 0))?;
+                            let at = cells.iter().position(|it| *it == cell).unwrap();
+                            assert_eq!(tx.update(slots[at], |_| number)?, 0);
+                            Ok((cell, at))
+                        });
+                        wait_for(&mut me, |tx| {
+                            assert_eq!(tx.update(slots[taken.1], |_| 0)?, number);
+                            assert_eq!(tx.get(taken.0)?, (number, 0));
+                            pool.give(tx, taken.0)
+                        });
+                    }
+                });
+            }
+        });
+        let mut me = memory.thread().unwrap();
+        for _ in 0..CELLS {
+            me.atomically(|tx| pool.take(tx, (0, 0))).unwrap();
+        }
+        assert!(me.atomically(|tx| pool.try_take(tx, (0, 0))).unwrap().is_none());
     }
 }
 
@@ -313,6 +389,8 @@ fn words_keep_what_they_are_given() {
         memory.cell(i8::MIN).unwrap(),
         memory.cell(u128::MAX - 7).unwrap(),
     );
+    let (c, n) = (memory.cell(w).unwrap(), memory.cell(None::<Cell<bool>>).unwrap());
+    assert!((memory.get(c), memory.get(n)) == (Ok(w), Ok(None)));
     assert_eq!((memory.get(f), memory.get(b)), (Ok(-1.5), Ok(true)));
     assert_eq!((memory.get(i), memory.get(w)), (Ok(i8::MIN), Ok(u128::MAX - 7)));
 }
