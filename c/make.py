@@ -4,7 +4,8 @@
     python3 c/make.py                   leaves libdstm.a, libdstm.so.1 and dstm.pc in c/out, and runs all tests
     python3 c/make.py --prefix FOLDER   and installs them, and dstm.h, below that folder
     python3 c/make.py --quiet           says only what failed, what was skipped, and how many passed; and leaves out what
-                                        another version of a tool may see otherwise: whether clippy has a warning
+                                        another version of a tool may see otherwise: whether clippy has a warning, and
+                                        what rustc's thread sanitizer says of a std that is not built with it
     python3 c/make.py --bench           and measures the library beside a mutex and beside gcc's transactional memory
     python3 c/make.py --behind-rt-ci    takes the libraries that rt ci has just proved and left as they are
     python3 c/make.py --archive FILE    builds and tests with this archive of the exports, and proves nothing
@@ -352,19 +353,28 @@ def rust_valgrind(room):
     return rust(room, *words, CARGO_TARGET_X86_64_UNKNOWN_LINUX_GNU_RUNNER=" ".join(by_valgrind()))
 
 
-def rust_sanitized(room):
-    """Runs them under rustc's address sanitizer, which a nightly compiler has. Its thread sanitizer wants a std that is
-    built with it."""
-    target, flags = "x86_64-unknown-linux-gnu", "-Zsanitizer=address"
+# What rustc's thread sanitizer reports of std, which is not built with it: the counts of its Arc, and the test harness.
+OF_STD = "race:alloc::sync::Arc<\nrace:test::event::CompletedTest\n"
+
+
+def rust_sanitized(kind, room):
+    """Runs them under a sanitizer of rustc, which a nightly compiler has."""
+    target, flags, words = "x86_64-unknown-linux-gnu", [f"-Zsanitizer={kind}"], []
+    more = {"CARGO_BUILD_TARGET": target}
+    if kind == "thread":
+        with open(f"{room}/of_std", "w", encoding="utf-8") as it:
+            it.write(OF_STD)
+        flags.append("-Cunsafe-allow-abi-mismatch=sanitizer")
+        words = ["--test", "all", "--", "--test-threads", "1"]
+        more["TSAN_OPTIONS"] = f"suppressions={room}/of_std"
     cargo("+nightly")
-    words = ["rustc", "+nightly", flags, "--test", "--target", target, "-", "-o", f"{room}/trial"]
+    trial = ["rustc", "+nightly", *flags, "--test", "--target", target, "-", "-o", f"{room}/trial"]
     try:
-        call(words, input="#[test]\nfn runs() {}\n", stdin=None)
-        call([f"{room}/trial"])
+        call(trial, input="#[test]\nfn runs() {}\n", stdin=None)
+        call([f"{room}/trial", "--test-threads", "1"], env={**os.environ, **more})
     except (Failed, OSError):
-        raise Missing("address sanitizer of rustc that works") from None
-    more = {"RUSTFLAGS": flags, "RUSTDOCFLAGS": flags, "CARGO_BUILD_TARGET": target}
-    return rust(room, "+nightly", **more)
+        raise Missing(f"{kind} sanitizer of rustc that works") from None
+    return rust(room, "+nightly", *words, **more, RUSTFLAGS=" ".join(flags), RUSTDOCFLAGS=" ".join(flags))
 
 
 def rust_clean(room):
@@ -373,7 +383,7 @@ def rust_clean(room):
     cargo("clippy")
     how = {**os.environ, "DSTM_LIB": OUT, "CARGO_TARGET_DIR": f"{room}/target"}
     how = {**how, "RUSTDOCFLAGS": "-D warnings", "RUSTFLAGS": "-D warnings"}
-    for words in (["clippy", "--all-targets"], ["doc"]):
+    for words in (["clippy", "--all-targets"], ["clippy", "--all-targets", "--no-default-features"], ["doc"]):
         call(["cargo", *words, "--offline", "--quiet"], cwd=f"{HERE}/rust", env=how)
 
 
@@ -452,12 +462,16 @@ def main():
                 steps.step("counter.py", python)
                 steps.step("counter.c as installed", lambda: by_pkg_config(room))
             if steps.step("the crate dstm for Rust", lambda: rust(room)):
+                without = ("--no-default-features", "--test", "all")
+                steps.step("the crate dstm without std", lambda: rust(room, *without))
                 ignored = ("--release", "--test", "all", "--", "--ignored")
                 steps.step("the crate dstm with 4,000,000 transactions", lambda: rust(room, *ignored))
                 if not args.quiet:
                     steps.step("the crate dstm without a warning", lambda: rust_clean(room))
                 steps.step("the crate dstm under valgrind", lambda: rust_valgrind(room))
-                steps.step("the crate dstm under the address sanitizer", lambda: rust_sanitized(room))
+                steps.step("the crate dstm under the address sanitizer", lambda: rust_sanitized("address", room))
+                if not args.quiet:
+                    steps.step("the crate dstm under the thread sanitizer", lambda: rust_sanitized("thread", room))
             with open(f"{OUT}/dstm.pc", "w", encoding="utf-8") as it:
                 it.write(PC.format(prefix="/usr/local", version=".".join(map(str, NUMBERS))))
             if args.prefix:

@@ -1,8 +1,13 @@
 use dstm::{Cell, Engine, Error, Memory, Stop, Thread, Tx};
 use std::panic::{catch_unwind, AssertUnwindSafe};
-use std::thread::scope;
+use std::thread::{scope, ScopedJoinHandle};
 
 const ENGINES: [Engine; 5] = [Engine::Tl2, Engine::Polka, Engine::Karma, Engine::Polite, Engine::Greedy];
+
+// What threads answer, each of which is waited for by itself.
+fn joined<T>(threads: Vec<ScopedJoinHandle<'_, T>>) -> Vec<T> {
+    threads.into_iter().map(|it| it.join().unwrap()).collect()
+}
 
 #[test]
 fn four_threads_count() {
@@ -10,14 +15,15 @@ fn four_threads_count() {
         let mut memory = Memory::with_engine(4, engine).unwrap();
         let counter = memory.cell(0u64).unwrap();
         scope(|s| {
-            for _ in 0..4 {
+            let count = |_| {
                 let mut me = memory.thread().unwrap();
                 s.spawn(move || {
                     for _ in 0..5_000 {
                         me.atomically(|tx| tx.update(counter, |n| n + 1)).unwrap();
                     }
-                });
-            }
+                })
+            };
+            joined((0..4).map(count).collect())
         });
         assert_eq!(memory.get(counter), Ok(20_000));
     }
@@ -92,9 +98,10 @@ fn the_total_is_always_right() {
         let accounts: Vec<Cell<u64>> = (0..16).map(|_| memory.cell(100u64).unwrap()).collect();
         let accounts = &accounts[..];
         scope(|s| {
+            let mut threads = vec![];
             for n in 0..4u64 {
                 let mut me = memory.thread().unwrap();
-                s.spawn(move || {
+                threads.push(s.spawn(move || {
                     for i in 0..2_000 {
                         let (from, to) = ((i * 7 + n) as usize % 16, (i * 11 + 3 * n) as usize % 16);
                         let moved = me.atomically(|tx| {
@@ -107,10 +114,10 @@ fn the_total_is_always_right() {
                         });
                         assert_eq!(moved, Ok(()));
                     }
-                });
+                }));
             }
             let mut me = memory.thread().unwrap();
-            s.spawn(move || {
+            threads.push(s.spawn(move || {
                 for _ in 0..200 {
                     let all = me.atomically(|tx| {
                         let mut all = 0;
@@ -121,7 +128,8 @@ fn the_total_is_always_right() {
                     });
                     assert_eq!(all, Ok(1600));
                 }
-            });
+            }));
+            joined(threads)
         });
     }
 }
@@ -150,12 +158,12 @@ fn one_waits_for_the_other() {
         scope(|s| {
             let (mut a, mut b) = (memory.thread().unwrap(), memory.thread().unwrap());
             // It waits again where nothing has changed for long, as on a machine that does much else.
-            s.spawn(move || {
+            let putting = s.spawn(move || {
                 for n in 0..500 {
                     while a.atomically(|tx| put(tx, slot, n)) == Err(Error::Idle) {}
                 }
             });
-            s.spawn(move || {
+            let taking = s.spawn(move || {
                 for n in 0..500 {
                     let taken = loop {
                         match b.atomically(|tx| take(tx, slot)) {
@@ -166,6 +174,7 @@ fn one_waits_for_the_other() {
                     assert_eq!(taken, Ok(n));
                 }
             });
+            joined(vec![putting, taking])
         });
     }
 }
@@ -187,21 +196,23 @@ fn each_number_comes_out_of_a_bounded_queue_once() {
         let mut memory = Memory::with_engine(4, engine).unwrap();
         let queue = memory.queue(8).unwrap();
         let seen = scope(|s| {
-            for first in [0, EACH] {
+            let producer = |first| {
                 let mut me = memory.thread().unwrap();
                 s.spawn(move || {
                     for n in first..first + EACH {
                         wait_for(&mut me, |tx| queue.push(tx, n));
                     }
-                });
-            }
-            let consumers = [(); 2].map(|()| {
+                })
+            };
+            let consumer = || {
                 let mut me = memory.thread().unwrap();
                 s.spawn(move || -> Vec<u64> {
                     (0..EACH).map(|_| wait_for(&mut me, |tx| queue.pop(tx))).collect()
                 })
-            });
-            consumers.map(|it| it.join().unwrap())
+            };
+            let (producers, consumers) = (vec![producer(0), producer(EACH)], vec![consumer(), consumer()]);
+            joined(producers);
+            joined(consumers)
         });
         // What one producer has put in comes out in its order.
         for taken in &seen {
@@ -273,7 +284,7 @@ fn no_cell_of_a_pool_is_in_two_places_or_lost() {
         }
         let (cells, slots) = (&cells[..], &slots[..]);
         scope(|s| {
-            for number in 1..=3u64 {
+            let take_and_give = |number: u64| {
                 let mut me = memory.thread().unwrap();
                 s.spawn(move || {
                     for _ in 0..500 {
@@ -289,8 +300,9 @@ fn no_cell_of_a_pool_is_in_two_places_or_lost() {
                             pool.give(tx, taken.0)
                         });
                     }
-                });
-            }
+                })
+            };
+            joined((1..=3).map(take_and_give).collect())
         });
         let mut me = memory.thread().unwrap();
         for _ in 0..CELLS {
