@@ -146,8 +146,8 @@ static inline dstm_code dstm_peek_u64(dstm_memory *memory, dstm_cell cell, uint6
     uint64_t high;
     return DSTM_CALL(memory && low, dstmc_peek(memory, cell, low, &high));
 }
-/* A part for a thread. FULL: so many threads have parts; or 63 parts (by DSTM as many as threads) were given out
-   since a moment at which no thread had one. FULL, TAKEN, MEMORY, CLOSED. */
+/* A part for a thread. FULL: so many threads have parts; or, while one was always out, parts have come and gone: in a
+   row as many as threads are given out, and by TL2 up to 63. FULL, TAKEN, MEMORY, CLOSED. */
 static inline dstm_code dstm_thread_new(dstm_memory *memory, dstm_thread *thread) {
     return DSTM_CALL(memory && thread && (void *)memory != (void *)thread, dstmc_thread_new(memory, thread));
 }

@@ -19,6 +19,9 @@ static void test(dstm_engine engine) {
     int i;
     IS(DSTM_OK, dstm_memory_new(&memory, 2, engine));
     IS(DSTM_OK, dstm_cell_new(&memory, 0, 0, &counter));
+    /* one that came and went takes nothing from those behind it */
+    IS(DSTM_OK, dstm_thread_new(&memory, &a));
+    IS(DSTM_OK, dstm_thread_free(&a));
     for (i = 0; i < 40; i++) {
         IS(DSTM_OK, dstm_thread_new(&memory, &a));
         IS(DSTM_OK, dstm_thread_new(&memory, &b));

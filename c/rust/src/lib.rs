@@ -386,8 +386,8 @@ impl Memory {
         Ok(T::from_words(low, high))
     }
 
-    /// A part for a thread. `Full`: so many threads have parts; or 63 parts (by DSTM as many as threads) were given
-    /// out since a moment at which no thread had one.
+    /// A part for a thread. `Full`: so many threads have parts; or, while one was always out, parts have come and gone:
+    /// in a row as many as threads are given out, and by TL2 up to 63.
     pub fn thread(&self) -> Result<Thread<'_>, Error> {
         let mut handle = CLOSED;
         done(unsafe { dstmc_thread_new(&mut self.handle.lock(), &mut handle) })?;

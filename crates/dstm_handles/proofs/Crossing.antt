@@ -92,7 +92,7 @@ home_send : IsSend Home.the_row
 home_send =
     declared_send Home.the_type (
       search (table_send, table_sync, crosses, sendable) depth 20,
-      (founder_send, (thread_send, tt)),
+      (founder_send, (thread_send, (search sendable depth 20, tt))),
     )
 
 pub memory_send : IsSend Memory.the_row

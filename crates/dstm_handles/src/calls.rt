@@ -43,6 +43,7 @@ impl Thread {
     }
 
     /// Begins a transaction, or the next attempt at one that was lost.
+    #[inline(always)]
     pub fn begin(&mut self) -> Code
         ensures begins { result ≡ Done → Begins ⟦<AnyLaw as Law>⟧.holds (starting self.old) self.new.attempts.caller }
         ensures may { result ≡ Done → MayCall self.new }
@@ -91,6 +92,7 @@ impl Thread {
     }
 
     /// What a cell holds.
+    #[inline(always)]
     pub fn get(&mut self, cell: u32) -> Result<Val, Code>
         ensures goes_on { GoesOn self.old self.new }
         ensures undos { self.new.undos.items ≡ self.old.undos.items }
@@ -144,6 +146,7 @@ impl Thread {
     }
 
     /// Commits the transaction.
+    #[inline(always)]
     pub fn commit(&mut self) -> Code
         ensures takes { result ≡ Done → TakesEffect ⟦<AnyLaw as Law>⟧.holds self.old.attempts.caller
             self.new.attempts.caller }

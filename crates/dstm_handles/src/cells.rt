@@ -82,8 +82,8 @@ impl Memory {
         }
     }
 
-    /// A part for a thread. Where the table has none left to give out, and all that it gave out are back, there is a
-    /// new table.
+    /// A part for a thread. Where all parts are back, and the table has fewer left to give out than threads may have at
+    /// once, there is a new table.
     pub fn thread(&mut self) -> Result<Thread, Code>
         ensures gives { IfOk result (GivesPart ⟦<AnyLaw as Law>⟧.holds self.old) }
         ensures idle { IfOk result (λ part. part.begun ≡ false) }
@@ -133,7 +133,12 @@ impl Memory {
         match &mut self.home {
             None => Err(Code::Full),
             Some(home) => {
-                if home.parts_out() >= self.threads as usize {
+                let out = home.parts_out();
+                if out >= self.threads as usize {
+                    return Err(Code::Full);
+                }
+                let callers = callers_by(self.engine, self.threads);
+                if out == 0 && home.given.saturating_add(self.threads) >= callers {
                     return Err(Code::Full);
                 }
                 self.seeds = self.seeds.wrapping_add(1);
@@ -179,6 +184,7 @@ impl Memory {
             table,
             founder,
             last: Thread::of(self.alloc, shared, caller),
+            given: 0,
         })
     }
 }
@@ -200,7 +206,10 @@ impl Home {
             return Err(Code::Memory);
         };
         match self.founder.caller(alloc, &self.table, seed) {
-            Ok(caller) => Ok(Thread::of(alloc, table, caller)),
+            Ok(caller) => {
+                self.given = self.given.saturating_add(1);
+                Ok(Thread::of(alloc, table, caller))
+            }
             Err(EnrolError::Memory(_)) => Err(Code::Memory),
             Err(EnrolError::Full) => Err(Code::Full),
         }

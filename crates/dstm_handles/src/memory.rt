@@ -33,6 +33,8 @@ pub struct Home {
     pub(crate) founder: Founder<AnyLaw>,
     // The memory's own part, which reads all cells when no thread has one.
     pub(crate) last: Thread,
+    // How many parts it has given out.
+    pub(crate) given: u32,
     ghost founded: { home_there founder ≡ arc_value table },
     ghost own: { home_of last.attempts.caller ≡ arc_value table },
 }
