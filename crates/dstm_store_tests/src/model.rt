@@ -3,19 +3,6 @@ use dstm_model::{Cond, Item, Items, Layout, Numbers, Op, Ops, PlainStore, Replie
 use std::test::Fail;
 
 #[test]
-fn transfers_move_money(rt: HostRuntime) -> Result<(), Fail> {
-    let mut store = PlainStore::opening(rt.alloc(), &BANK)?;
-    assert_eq!(rt; store.apply(&pay(0, 1, 30))?, Reply::Moved);
-    assert_eq!(rt; store.apply(&pay(0, 1, 80))?, Reply::Poor);
-    assert_eq!(rt; store.apply(&pay(1, 1, 130))?, Reply::Moved);
-    let state = store.state(rt.alloc())?;
-    assert_eq!(rt; state.bank.as_slice(), [70, 130].as_slice());
-    assert_eq!(rt; state.list.as_slice().len(), 0);
-    assert_eq!(rt; state.tree.as_slice().len(), 0);
-    Ok(())
-}
-
-#[test]
 fn lists_keep_their_order(rt: HostRuntime) -> Result<(), Fail> {
     let mut ops = Ops::new();
     ops.push(Op::Total);

@@ -76,54 +76,6 @@ fn every_node_is_free_at_the_opening(rt: HostRuntime) -> Result<(), Fail> {
     Ok(())
 }
 
-#[test]
-fn accounts_and_a_list(rt: HostRuntime) -> Result<(), Fail> {
-    let layout = Layout { list: 2, ..BANK };
-    let which = Which::List;
-    let ops = [
-        pay(0, 1, 30),
-        Op::Insert { which, key: 9 },
-        Op::Insert { which, key: 4 },
-        Op::Insert { which, key: 6 },
-    ];
-    let (replies, state) = run_each(rt.alloc(), &layout, &ops)?;
-    let wanted = [Reply::Moved, Reply::Yes, Reply::Yes, Reply::Full];
-    assert_eq!(rt; replies.as_slice(), wanted.as_slice());
-    assert_eq!(rt; state.bank.as_slice(), [70, 130].as_slice());
-    assert_eq!(rt; state.list.as_slice(), [4, 9].as_slice());
-    assert_eq!(rt; state.tree.as_slice().len(), 0);
-    Ok(())
-}
-
-#[test]
-fn a_tree_that_was_full(rt: HostRuntime) -> Result<(), Fail> {
-    let layout = Layout { tree: 3, ..NOTHING };
-    let which = Which::Tree;
-    let ops = [
-        Op::Insert { which, key: 2 },
-        Op::Insert { which, key: 1 },
-        Op::Insert { which, key: 3 },
-        Op::Insert { which, key: 4 },
-        Op::Remove { which, key: 2 },
-        Op::Insert { which, key: 4 },
-    ];
-    let (replies, state) = run_each(rt.alloc(), &layout, &ops)?;
-    let wanted = [
-        Reply::Yes,
-        Reply::Yes,
-        Reply::Yes,
-        Reply::Full,
-        Reply::Yes,
-        Reply::Yes,
-    ];
-    assert_eq!(rt; replies.as_slice(), wanted.as_slice());
-    let items = [item(1, 0), item(3, 0), item(4, 0)];
-    assert_eq!(rt; state.tree.as_slice(), items.as_slice());
-    assert_eq!(rt; state.bank.as_slice().len(), 0);
-    assert_eq!(rt; state.list.as_slice().len(), 0);
-    Ok(())
-}
-
 fn item(key: u64, value: u64) -> Item {
     Item { key, value }
 }
@@ -213,27 +165,6 @@ fn run_jobs(
 }
 
 #[test]
-fn jobs_on_a_list_of_one_key(rt: HostRuntime) -> Result<(), Fail> {
-    let layout = Layout { list: 1, ..NOTHING };
-    let which = Which::List;
-    let five = [Op::Insert { which, key: 5 }];
-    let six = [Op::Insert { which, key: 6 }];
-    let taken = [Op::Remove { which, key: 5 }];
-    let jobs = [
-        five.as_slice(),
-        five.as_slice(),
-        six.as_slice(),
-        taken.as_slice(),
-        six.as_slice(),
-    ];
-    let (replies, state) = run_jobs(rt.alloc(), &layout, &jobs)?;
-    let wanted = [Reply::Yes, Reply::No, Reply::Full, Reply::Yes, Reply::Yes];
-    assert_eq!(rt; replies.as_slice(), wanted.as_slice());
-    assert_eq!(rt; state.list.as_slice(), [6].as_slice());
-    Ok(())
-}
-
-#[test]
 fn a_job_of_all_keys(rt: HostRuntime) -> Result<(), Fail> {
     let layout = Layout { tree: 7, ..NOTHING };
     let which = Which::Tree;
@@ -244,42 +175,6 @@ fn a_job_of_all_keys(rt: HostRuntime) -> Result<(), Fail> {
     assert_eq!(rt; replies.as_slice(), [Reply::Yes; 8].as_slice());
     let items = [1, 2, 3, 5, 6, 7].map(|key| item(key, 0));
     assert_eq!(rt; state.tree.as_slice(), items.as_slice());
-    Ok(())
-}
-
-#[test]
-fn jobs_that_put_and_get(rt: HostRuntime) -> Result<(), Fail> {
-    let layout = Layout { tree: 2, ..NOTHING };
-    let which = Which::Tree;
-    let added = [Op::Put { key: 5, value: 9 }];
-    let replaced = [Op::Put { key: 5, value: 8 }];
-    let looked = [Op::Get { key: 5 }, Op::Get { key: 6 }];
-    let filled = [
-        Op::Insert { which, key: 5 },
-        Op::Insert { which, key: 6 },
-        Op::Put { key: 7, value: 1 },
-    ];
-    let last = [Op::Get { key: 6 }];
-    let jobs = [
-        added.as_slice(),
-        replaced.as_slice(),
-        looked.as_slice(),
-        filled.as_slice(),
-        last.as_slice(),
-    ];
-    let (replies, state) = run_jobs(rt.alloc(), &layout, &jobs)?;
-    let wanted = [
-        Reply::Yes,
-        Reply::No,
-        Reply::Number(8),
-        Reply::Absent,
-        Reply::No,
-        Reply::Yes,
-        Reply::Full,
-        Reply::Number(0),
-    ];
-    assert_eq!(rt; replies.as_slice(), wanted.as_slice());
-    assert_eq!(rt; state.tree.as_slice(), [item(5, 8), item(6, 0)].as_slice());
     Ok(())
 }
 
@@ -398,21 +293,20 @@ fn few_objects_of_a_large_tree_are_opened(rt: HostRuntime) -> Result<(), Fail> {
         ..NOTHING
     };
     let mut mem = opened(rt.alloc(), &layout)?;
-    let alloc = rt.alloc();
-    let ops = on_all_keys(alloc, Kind::Insert, 37)?;
-    assert!(rt; opens_at_most(&mut mem, &layout, &ops, 23, 25));
-    let ops = on_all_keys(alloc, Kind::Insert, 2)?;
-    assert!(rt; opens_at_most(&mut mem, &layout, &ops, 21, 0));
-    let ops = on_all_keys(alloc, Kind::Member, 5)?;
-    assert!(rt; opens_at_most(&mut mem, &layout, &ops, 21, 0));
-    let ops = on_all_keys(alloc, Kind::Get, 7)?;
-    assert!(rt; opens_at_most(&mut mem, &layout, &ops, 21, 0));
-    let ops = on_all_keys(alloc, Kind::Put, 10)?;
-    assert!(rt; opens_at_most(&mut mem, &layout, &ops, 21, 1));
-    let ops = on_all_keys(alloc, Kind::Remove, 101)?;
-    assert!(rt; opens_at_most(&mut mem, &layout, &ops, 28, 12));
-    let ops = on_all_keys(alloc, Kind::Remove, 4)?;
-    assert!(rt; opens_at_most(&mut mem, &layout, &ops, 1, 0));
+    // An operation, and how many objects it opens at most for reading and for writing.
+    let rows = [
+        (Kind::Insert, 37, 23, 25),
+        (Kind::Insert, 2, 21, 0),
+        (Kind::Member, 5, 21, 0),
+        (Kind::Get, 7, 21, 0),
+        (Kind::Put, 10, 21, 1),
+        (Kind::Remove, 101, 28, 12),
+        (Kind::Remove, 4, 1, 0),
+    ];
+    for (kind, leap, reads, writes) in rows {
+        let ops = on_all_keys(rt.alloc(), kind, leap)?;
+        assert!(rt; opens_at_most(&mut mem, &layout, &ops, reads, writes));
+    }
     Ok(())
 }
 
