@@ -33,6 +33,4 @@ mod threads;
 #[cfg(test)]
 mod tl2_meetings;
 #[cfg(test)]
-mod tl2_threads;
-#[cfg(test)]
 mod words;

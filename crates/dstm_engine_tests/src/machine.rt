@@ -21,6 +21,23 @@ fn replay_with(
     replay(alloc, shape, &events)
 }
 
+// Tells whether each of these rows breaks the rules behind so many events of a trace.
+fn break_rules(
+    alloc: Global,
+    shape: &Shape,
+    trace: &[Event],
+    rows: &[(usize, Row)],
+) -> Result<bool, AllocError>
+    requires { IsValid shape.now }
+{
+    for (count, last) in rows {
+        if replay_with(alloc, shape, trace, *count, *last)? != Replay::Broken(*count as u64) {
+            return Ok(false);
+        }
+    }
+    Ok(true)
+}
+
 // One caller opens an object and commits.
 const COMMITS: [Row; 11] = [
     (0, Kind::Enrol, 7, 0, 0, 1),
@@ -41,16 +58,12 @@ fn one_caller_commits(rt: HostRuntime) -> Result<(), Fail> {
     let shape = small(1, Manager::Polite);
     let trace = events_of(rt.alloc(), &COMMITS)?;
     assert_eq!(rt; replay(rt.alloc(), &shape, &trace)?, Replay::Run);
-    let undrawn = replay_with(rt.alloc(), &shape, &trace, 9, (0, Kind::Commit, 1, 3, 3, 4))?;
-    assert_eq!(rt; undrawn, Replay::Broken(9));
-    let unlinked = replay_with(
-        rt.alloc(),
-        &shape,
-        &trace,
-        10,
-        (0, Kind::Commit, 1, 3, 1, 4),
-    )?;
-    assert_eq!(rt; unlinked, Replay::Broken(10));
+    // There is no number, and another status is found.
+    let broken = [
+        (9, (0, Kind::Commit, 1, 3, 3, 4)),
+        (10, (0, Kind::Commit, 1, 3, 1, 4)),
+    ];
+    assert!(rt; break_rules(rt.alloc(), &shape, &trace, &broken)?);
     Ok(())
 }
 
@@ -140,10 +153,7 @@ fn a_caller_alone_keeps_the_rules(rt: HostRuntime) -> Result<(), Fail> {
     };
     let trace = events_of(rt.alloc(), &ALONE)?;
     assert_eq!(rt; replay(rt.alloc(), &shape, &trace)?, Replay::Run);
-    for (count, last) in ALONE_BROKEN {
-        let found = replay_with(rt.alloc(), &shape, &trace, count, last)?;
-        assert_eq!(rt; found, Replay::Broken(count as u64));
-    }
+    assert!(rt; break_rules(rt.alloc(), &shape, &trace, &ALONE_BROKEN)?);
     Ok(())
 }
 
@@ -224,10 +234,7 @@ fn a_younger_waiting_caller_is_killed(rt: HostRuntime) -> Result<(), Fail> {
     trace.push(event_of((2, Kind::Kill, 2, 2, 2, 5)))?;
     trace.push(event_of((2, Kind::LookOld, 14, 0, 0, 0)))?;
     assert_eq!(rt; replay(rt.alloc(), &GREEDY, &trace)?, Replay::Run);
-    for (count, last) in GREEDY_BROKEN {
-        let found = replay_with(rt.alloc(), &GREEDY, &trace, count, last)?;
-        assert_eq!(rt; found, Replay::Broken(count as u64));
-    }
+    assert!(rt; break_rules(rt.alloc(), &GREEDY, &trace, &GREEDY_BROKEN)?);
     Ok(())
 }
 
