@@ -1,11 +1,11 @@
 // A queue beside the one of std, and on threads.
+use crate::cells::memory_by;
 use dstm_cells::{Failed, GaveUp, Manager, Me, Memory};
 use dstm_structures::Queue;
 use std::alloc::Global;
 use std::collections::VecDeque;
 use std::process::Abort;
 use std::test::Fail;
-use std::thread::Threads;
 
 // The next number of a row that looks random.
 fn draw(seed: &mut u64) -> u64 {
@@ -48,64 +48,52 @@ fn beside_a_deque<R: Abort>(
     Ok(())
 }
 
-fn does_what_a_deque_does<R: Abort + Threads + Sync>(
-    rt: &R,
-    alloc: Global,
-    memory: Memory,
-    rounds: u32,
-) -> Result<(), Fail> {
-    let mut memory = memory;
-    let queue = Queue::new(&mut memory, 5)?;
-    memory.run(rt, 1, |me, _| {
-        let mut seed = 1;
-        for _ in 0..rounds {
-            beside_a_deque(rt, alloc, me, queue, &mut seed)?;
-        }
-        Ok(())
-    })?;
-    Ok(())
-}
-
 #[test]
 fn a_queue_does_what_a_deque_does(rt: HostRuntime) -> Result<(), Fail> {
-    let karma = Memory::with_manager(rt.alloc(), Manager::Karma);
-    does_what_a_deque_does(&rt, rt.alloc(), Memory::new(rt.alloc()), 2_000)?;
-    does_what_a_deque_does(&rt, rt.alloc(), karma, 200)
+    for (manager, rounds) in [(None, 2_000), (Some(Manager::Karma), 200)] {
+        let mut memory = memory_by(rt.alloc(), manager);
+        let queue = Queue::new(&mut memory, 5)?;
+        memory.run(&rt, 1, |me, _| {
+            let mut seed = 1;
+            for _ in 0..rounds {
+                beside_a_deque(&rt, rt.alloc(), me, queue, &mut seed)?;
+            }
+            Ok(())
+        })?;
+    }
+    Ok(())
 }
 
 // Two threads push, one moves what it finds on into another queue, and one adds it up.
-fn loses_nothing<R: Abort + Threads + Sync>(rt: &R, memory: Memory) -> Result<(), Fail> {
-    let mut memory = memory;
-    let queue: Queue<u64> = Queue::new(&mut memory, 5)?;
-    let other: Queue<u64> = Queue::new(&mut memory, 3)?;
-    let sum = memory.cell(0u64)?;
-    assert_eq!(rt; other.capacity(), 3);
-    memory.run(rt, 4, |me, number| {
-        for item in 1..=600u64 {
-            me.atomically(|tx| match number {
-                0 | 1 if item <= 300 => queue.push(tx, item),
-                2 => {
-                    let found = queue.pop(tx)?;
-                    other.push(tx, found)
-                }
-                3 => {
-                    let found = other.pop(tx)?;
-                    let _before = tx.update(sum, |all| all.wrapping_add(found))?;
-                    Ok(())
-                }
-                _ => Ok(()),
-            })?;
-        }
-        Ok(())
-    })?;
-    assert_eq!(rt; memory.get(sum)?, 90_300);
-    Ok(())
-}
-
 #[test]
 fn a_queue_on_threads_loses_nothing(rt: HostRuntime) -> Result<(), Fail> {
-    loses_nothing(&rt, Memory::new(rt.alloc()))?;
-    loses_nothing(&rt, Memory::with_manager(rt.alloc(), Manager::Karma))
+    for manager in [None, Some(Manager::Karma)] {
+        let mut memory = memory_by(rt.alloc(), manager);
+        let queue: Queue<u64> = Queue::new(&mut memory, 5)?;
+        let other: Queue<u64> = Queue::new(&mut memory, 3)?;
+        let sum = memory.cell(0u64)?;
+        assert_eq!(rt; other.capacity(), 3);
+        memory.run(&rt, 4, |me, number| {
+            for item in 1..=600u64 {
+                me.atomically(|tx| match number {
+                    0 | 1 if item <= 300 => queue.push(tx, item),
+                    2 => {
+                        let found = queue.pop(tx)?;
+                        other.push(tx, found)
+                    }
+                    3 => {
+                        let found = other.pop(tx)?;
+                        let _before = tx.update(sum, |all| all.wrapping_add(found))?;
+                        Ok(())
+                    }
+                    _ => Ok(()),
+                })?;
+            }
+            Ok(())
+        })?;
+        assert_eq!(rt; memory.get(sum)?, 90_300);
+    }
+    Ok(())
 }
 
 #[test]
