@@ -1,7 +1,7 @@
 ghost use Rattle.std.specs.Prelude.{◌≡◌, ◌<◌, Some};
 ghost use Rattle.dstm_core.specs.State.{first};
 ghost use Rattle.dstm_core.specs.Words.{IsValid};
-ghost use Rattle.dstm_words.specs.Seats.{view_of, caller_state, CanEnrol, IsOf};
+ghost use Rattle.dstm_words.specs.Seats.{view_of, caller_state, CanEnrol, IsOf, IsOut};
 
 use crate::calls::small;
 use dstm_core::{Kind, Manager, Shape, Status};
@@ -24,6 +24,7 @@ fn enrol<L: Law>(words: &Words<L>, shape: &Shape, seat: &mut CoreSeat<L>) -> u64
     ensures number { result < shape.now.callers }
     ensures state { caller_state words.now.terms (view_of seat.new) ≡ record first { number = Some result } }
     ensures named { (view_of seat.new).number ≡ Some result }
+    ensures kept { IsOut (view_of seat.old) → IsOut (view_of seat.new) }
 {
     words.add(seat, Kind::Enrol, shape.callers_place())
 }
@@ -37,6 +38,7 @@ fn try_once<L: Law>(words: &Words<L>, shape: &Shape, seat: &mut CoreSeat<L>, num
     requires state { caller_state words.now.terms (view_of seat.old) ≡ record first { number = Some number } }
     requires named { (view_of seat.old).number ≡ Some number }
     ensures seat { IsOf words.now seat.new }
+    ensures kept { IsOut (view_of seat.old) → IsOut (view_of seat.new) }
 {
     let active = Status::Active.code();
     let status = shape.status(number as u32 * shape.attempts);
