@@ -7,12 +7,12 @@ use Rattle.dstm_model.specs.declared.op.Op.{Op}
 use Rattle.dstm_model.specs.declared.reply.Reply.{Reply}
 use Rattle.dstm_model.specs.Job.{JobOutcome, apply_job}
 use Rattle.dstm_model.specs.Map.{Agrees, Entry, with_writes}
-use Rattle.dstm_model.specs.Store.{IsPlain}
+use Rattle.dstm_model.specs.Store.{IsPlain, Store}
 use Rattle.dstm_store.specs.Job.{DoesAll}
 use Rattle.dstm_store.specs.Whole.{IsLawful, StandsFor}
 use Rattle.dstm_compose.specs.declared.body.Outcome.TheVariants.{Ran}
 use Rattle.dstm_compose.specs.Compose.{IsRight, outcome_of, store_left}
-use Rattle.dstm_jobs.specs.Answers.{IsAnsweredBy}
+use Rattle.dstm_jobs.specs.Answers.{IsAnsweredBy, StaysOut}
 use Rattle.dstm_jobs.proofs.Plain.{plain_job}
 
 -- what is right on every lawful map that agrees with the reads of an entry
@@ -24,20 +24,25 @@ module _ (layout : Layout) (ops : List Op) (replies : List Reply) (entry : Entry
   -- a body that ran the operations in order
   pub answered_plain : All IsPlain ops →
       IsRightFor (λ before after. DoesAll (record { layout = layout; ops = ops }) before after replies) layout entry →
-      IsAnsweredBy layout ops replies entry
-  answered_plain plain right map held stands agrees =
-      rw (plain_job ops held plain) (right map (held, stands) agrees held stands)
+      StaysOut layout ops entry → IsAnsweredBy layout ops replies entry
+  answered_plain plain right inside = record {
+    answers = λ map held stands agrees. rw (plain_job ops held plain) (right map (held, stands) agrees held stands);
+    inside = inside;
+  }
 
   -- a body that ran the first open branch
   pub answered_branch :
       IsRightFor (λ before after. IsRight (record { layout = layout; ops = ops }) before after (Ran replies)) layout entry →
-      IsAnsweredBy layout ops replies entry
-  answered_branch right map held stands agrees =
-      let does = (right map (held, stands) agrees).does held stands in by (apply_job ops held) does.0 does.1
+      StaysOut layout ops entry → IsAnsweredBy layout ops replies entry
+  answered_branch right inside = record {
+    answers = λ map held stands agrees.
+        let does = (right map (held, stands) agrees).does held stands in by map held (apply_job ops held) does.0 does.1;
+    inside = inside;
+  }
     where
-      by : (o : Option JobOutcome) → Ran replies ≡ outcome_of o →
+      by : (map : List Val) (held : Store) (o : Option JobOutcome) → Ran replies ≡ outcome_of o →
           StandsFor layout (with_writes map entry.writes) (store_left held o) →
           IsSomeAnd o (λ outcome. (replies ≡ outcome.replies)
           × StandsFor layout (with_writes map entry.writes) outcome.store)
-      by None is stands = absurd (cc is)
-      by (Some outcome) is stands = (let same : replies ≡ outcome.replies = cc in same, stands)
+      by map held None is stands = absurd (cc is)
+      by map held (Some outcome) is stands = (let same : replies ≡ outcome.replies = cc in same, stands)

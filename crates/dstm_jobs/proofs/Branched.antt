@@ -41,7 +41,7 @@ use Rattle.dstm_words.specs.Seats.{Home, IsRunOf}
 use Rattle.rand_pcg.specs.Lcg.{Lcg}
 use Rattle.dstm_engine.proofs.Made as made
 use Rattle.dstm_engine.specs.Attempts.{Admits, Commits, SightedByOpens, completes_pass, done, is_look_self, looks, looks_at_object, sights}
-use Rattle.dstm_engine.specs.Callers.{Called, begun_log, entry, is_live, is_opened, is_running, live_opened, law_of, shape_of, since_begin, start_of, state, written}
+use Rattle.dstm_engine.specs.Callers.{Called, begun_log, entry, held, is_live, is_opened, is_running, live_opened, law_of, shape_of, since_begin, start_of, state, written}
 use Rattle.dstm_engine.specs.Calls.{Performs, IsTold}
 use Rattle.dstm_engine.specs.Outcomes.{IsLeft}
 use Rattle.dstm_engine.specs.Transactions.{BeginsAnew, TxPlace}
@@ -67,6 +67,7 @@ use Rattle.dstm_jobs.specs.Tables.{AtRest, OneMore, WasKept}
 use Rattle.dstm_jobs.specs.Jobs.{DidJob, StoodAt}
 use Rattle.dstm_jobs.specs.Law.{keeps}
 use Rattle.dstm_jobs.proofs.Doing as doing
+use Rattle.dstm_jobs.proofs.Inside.{KeepsOutOf, dstm_inside}
 use Rattle.dstm_engine.proofs.BegunThere.{begun_there, count_later}
 use Rattle.dstm_engine.proofs.FewSights.{count_kinds, none_looks, sights_more}
 use Rattle.dstm_engine.proofs.Rechecking.{NoSelf}
@@ -177,9 +178,12 @@ module _ {k b t u x : Called StoreLaw} (a : made.Tried keeps k b t u x) where
       (law_of k).layout ≡ layout → n.home ≡ t.home → OneMore (Dstm k) (Dstm n) → Commits t n finished.number →
       ((map : List Val) → Admits keeps t map →
       IsRight (record { layout = layout; ops = job.ops }) map (with_set map (written t)) (Ran finished.replies)) →
-      SightedByOpens keeps n → DidJob Branches layout job (Dstm k) (Dstm n) finished
-  did_branch layout job finished n rest law nh one commits right sighted =
-      doing.did_branch layout job (Dstm k) (Dstm n) finished law (did _ k n finished.number rest one commits.status
+      KeepsOutOf layout job.ops (held t) (is_opened t) → SightedByOpens keeps n →
+      DidJob Branches layout job (Dstm k) (Dstm n) finished
+  did_branch layout job finished n rest law nh one commits right out sighted =
+      doing.did_branch layout job (Dstm k) (Dstm n) finished law
+      (λ by is. dstm_inside layout job.ops t n finished.number commits out by _ is)
+      (did _ k n finished.number rest one commits.status
       (made.settled keeps k b t a.reference a.before a.table a.at a.begins a.place _ n finished.number nh
       (rw (← nh) one.on.rest.run) commits right)) sighted
 
@@ -204,12 +208,13 @@ module _ {k b t n x : Called StoreLaw} (a : made.Tried keeps k b t n x) (rest : 
       IsRunOf keeps t.home.terms n.log → IsTold n → Commits t n finished.number →
       ((map : List Val) → Admits keeps t map →
       IsRight (record { layout = layout; ops = job.ops }) map (with_set map (written t)) (Ran finished.replies)) →
-      SightedByOpens keeps n → DidJob Branches layout job (Dstm k) (Dstm x) finished
-  did_commit layout job finished law kept log run told commits right sighted =
+      KeepsOutOf layout job.ops (held t) (is_opened t) → SightedByOpens keeps n →
+      DidJob Branches layout job (Dstm k) (Dstm x) finished
+  did_commit layout job finished law kept log run told commits right out sighted =
       subst (λ (c : Called StoreLaw). DidJob Branches layout job (Dstm k) (Dstm c) finished) (sym a.end)
       (did_branch a layout job finished n rest law
       (ap (λ (x : Called StoreLaw). x.home) kept) (one_committed kept log run told finished.number commits) commits
-      right sighted)
+      right out sighted)
 
   -- it did not commit
   pub was_left : (again : Again) → n ≡ record t { log = n.log; left = Some again } →

@@ -9,7 +9,7 @@ use Rattle.dstm_store.specs.Whole.{IsLawful}
 use Rattle.dstm_compose.specs.declared.body.Outcome.TheVariants.{Ran}
 use Rattle.dstm_compose.specs.Compose.{IsRight}
 use Rattle.dstm_workload.specs.declared.workload.Job.{Job}
-use Rattle.dstm_jobs.specs.Answers.{IsAnsweredBy, KeepsFew}
+use Rattle.dstm_jobs.specs.Answers.{IsAnsweredBy, KeepsFew, StaysOut}
 use Rattle.dstm_jobs.specs.declared.style.Style.{Style}
 use Rattle.dstm_jobs.specs.declared.style.Style.TheVariants.{Branches, Loose}
 use Rattle.dstm_jobs.specs.Tables.{Caller, Did}
@@ -25,9 +25,15 @@ abbrev pub FewReads : Style → Job → (k n : Caller) → Type 0
 FewReads style job k n =
     style ≡ Loose → lets_go (round_of n) ≡ true → (by : Committed) → done n ≡ by ∷ done k → KeepsFew job by
 
-module _ (layout : Layout) (job : Job) (k n : Caller) (finished : Finished) (law : (law_of k).layout ≡ layout) where
+-- the newest transaction has to do with the job's objects alone
+abbrev pub KeepsInside : Layout → Job → (k n : Caller) → Type 0
+KeepsInside layout job k n = (by : Committed) → done n ≡ by ∷ done k → StaysOut layout job.ops by.entry
+
+module _ (layout : Layout) (job : Job) (k n : Caller) (finished : Finished) (law : (law_of k).layout ≡ layout)
+    (inside : KeepsInside layout job k n) where
   did_job : (style : Style) (is_right : List Val → List Val → Type 0) → (d : Did is_right k n finished.number) →
-      (IsRightFor is_right layout d.entry → IsAnsweredBy layout job.ops finished.replies d.entry) →
+      (IsRightFor is_right layout d.entry → StaysOut layout job.ops d.entry →
+      IsAnsweredBy layout job.ops finished.replies d.entry) →
       FewReads style job k n → (style ≡ Branches → WasSightedByOpens n) → DidJob style layout job k n finished
   did_job style is_right d answered few sighted =
       let by : Committed = record { caller = number_of k; number = finished.number; entry = d.entry } in record {
@@ -38,7 +44,7 @@ module _ (layout : Layout) (job : Job) (k n : Caller) (finished : Finished) (law
         is = record {
           number = refl;
           answered = answered (λ map lawful. d.right map (objects_of_law layout k n map law d.made.on lawful)
-              (subst (λ (l : Layout). IsLawful l map) (sym law) lawful));
+              (subst (λ (l : Layout). IsLawful l map) (sym law) lawful)) (inside by d.newest);
         };
         few_reads = λ loose lets. few loose lets by d.newest;
         sighted = sighted;
@@ -50,9 +56,9 @@ module _ (layout : Layout) (job : Job) (k n : Caller) (finished : Finished) (law
       Did (λ before after. DoesAll body.task before after body.replies) k n finished.number → FewReads style job k n →
       (style ≡ Branches → WasSightedByOpens n) → DidJob style layout job k n finished
   did_plain style body same ops replies plain d few sighted =
-      did_job style _ d (λ right.
+      did_job style _ d (λ right stays.
       rw replies (answered_plain layout job.ops body.replies d.entry plain (λ map lawful agrees.
-      rw (← same, ← ops) (right map lawful agrees)))) few sighted
+      rw (← same, ← ops) (right map lawful agrees)) stays)) few sighted
 
   -- by its first open branch
   pub did_branch :

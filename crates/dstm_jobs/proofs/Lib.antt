@@ -1,6 +1,7 @@
 pub mod Plain
 pub mod Same
 pub mod Answered
+pub mod Inside
 pub mod Doing
 pub mod Made
 pub mod Rechecking

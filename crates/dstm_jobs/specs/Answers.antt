@@ -7,19 +7,29 @@ use Rattle.dstm_model.specs.declared.reply.Reply.{Reply}
 use Rattle.dstm_model.specs.Answers.{Committed}
 use Rattle.dstm_model.specs.Job.{apply_job}
 use Rattle.dstm_model.specs.Map.{Entry, Agrees, with_writes}
+use Rattle.dstm_mem.specs.Memory.{value_in}
 use Rattle.dstm_model.specs.Store.{Store}
 use Rattle.dstm_store.specs.Keeps.{is_of_list, most_kept}
 use Rattle.dstm_store.specs.Whole.{StandsFor}
+use Rattle.dstm_compose.specs.Compose.{IsForeign}
 use Rattle.dstm_workload.specs.declared.workload.Job.{Job}
 use Rattle.dstm_jobs.specs.declared.trying.Finished.{Finished}
 
+-- the transaction has read and written no object that is foreign to the job, which no operation and no condition of it
+-- is about
+abbrev pub StaysOut : Layout → List Op → Entry → Type 0
+StaysOut layout ops entry =
+    (o : ℕ) → IsForeign (record { layout = layout; ops = ops }) o →
+    (value_in entry.reads o ≡ None) × (value_in entry.writes o ≡ None)
+
 -- On every lawful map on which the transaction could have run, the replies are the job's, and what the transaction
--- leaves stands for the store that the job leaves.
-abbrev pub IsAnsweredBy : Layout → List Op → List Reply → Entry → Type 0
-IsAnsweredBy layout ops replies entry =
-    (map : List Val) (held : Store) → StandsFor layout map held → Agrees map entry.reads →
-    IsSomeAnd (apply_job ops held) (λ outcome. (replies ≡ outcome.replies)
-    × StandsFor layout (with_writes map entry.writes) outcome.store)
+-- leaves stands for the store that the job leaves. It has to do with the job's objects alone.
+pub record IsAnsweredBy (layout : Layout) (ops : List Op) (replies : List Reply) (entry : Entry) : Type 0 where
+  pub answers :
+      (map : List Val) (held : Store) → StandsFor layout map held → Agrees map entry.reads
+      → IsSomeAnd (apply_job ops held) (λ outcome. (replies ≡ outcome.replies)
+      × StandsFor layout (with_writes map entry.writes) outcome.store)
+  pub inside : StaysOut layout ops entry
 
 -- what was done of a job, and the transaction that did it
 pub record IsDone (layout : Layout) (job : Job) (finished : Finished) (by : Committed) : Type 0 where

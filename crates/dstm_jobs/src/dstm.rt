@@ -1,10 +1,10 @@
 //! Trying jobs by DSTM.
 
 ghost use Rattle.std.specs.Prelude.{◌≡◌, ◌<◌, ◌≤◌, ℕ, IfErr, IfNone, IfSome, IsTrue, List, OnOk, Some};
-ghost use Rattle.dstm_compose.specs.Compose.{IsRight};
+ghost use Rattle.dstm_compose.specs.Compose.{IsRight, KeepsOut};
 ghost use Rattle.dstm_compose.specs.declared.body.Outcome.{Outcome};
 ghost use Rattle.dstm_engine.specs.Attempts.{Admits, looks, sights};
-ghost use Rattle.dstm_engine.specs.Callers.{is_live, is_opened, shape_of, written};
+ghost use Rattle.dstm_engine.specs.Callers.{is_live, is_opened, live_held, live_opened, shape_of, written};
 ghost use Rattle.dstm_engine.specs.Makes as engine;
 ghost use Rattle.dstm_engine.specs.Outcomes.{IsLeft};
 ghost use Rattle.dstm_engine.specs.Transactions.{tx_place};
@@ -19,18 +19,43 @@ ghost use Rattle.dstm_jobs.specs.Law.{keeps};
 ghost use Rattle.dstm_jobs.specs.OnlyCallers.{HasGivenUp};
 ghost use Rattle.dstm_jobs.specs.Rechecks.{HasRechecked};
 ghost use Rattle.dstm_jobs.specs.Styles.{CanTry};
-ghost use Rattle.dstm_jobs.specs.declared.style.Style.TheVariants.{Branches, Loose};
+ghost use Rattle.dstm_jobs.specs.declared.style.Style.TheVariants.{Branches, Loose, Plain};
 ghost use Rattle.dstm_tables.specs.declared.tables.Caller.TheVariants.{Dstm};
 
 use crate::trying::{Finished, Tried};
 use dstm_compose::{CompBody, Outcome};
-use dstm_engine::{Caller, Ended, Kept, Opener, Spent, Stm, Tx, attempt_loose};
+use dstm_engine::{Caller, Ended, Kept, Opener, Spent, Stm, Tx, attempt, attempt_loose};
 use dstm_mem::{Body, Mem};
 use dstm_model::Layout;
 use dstm_order::Again;
-use dstm_store::{LooseJobBody, StoreLaw};
+use dstm_store::{JobBody, LooseJobBody, StoreLaw};
 use dstm_workload::Job;
 use std::marker::{Brand, PhantomData};
+
+/// Makes one attempt at a job, by its operations in order. It lets no read go.
+pub(crate) fn attempt_plain(
+    caller: &mut Caller<StoreLaw>,
+    stm: &Stm<StoreLaw>,
+    layout: &Layout,
+    job: &Job,
+) -> Tried
+    requires table { caller.old.home ≡ stm.now }
+    requires law { (law_of (Dstm caller.old)).layout ≡ layout.now }
+    requires rest { AtRest (Dstm caller.old) }
+    requires can { CanTry Plain layout.now job.now }
+    ensures tried { HasTried Plain 0 layout.now job.now (Dstm caller.old) (Dstm caller.new) result }
+    ensures keeps { let_go (Dstm caller.new) ≡ let_go (Dstm caller.old) }
+{
+    let mut body = JobBody::make(layout, &job.ops);
+    match attempt(caller, stm, &mut body) {
+        Ok(done) => Tried::Done(Finished {
+            number: done.number,
+            replies: body.into_replies(),
+        }),
+        Err(Ended::Again(_)) => Tried::Again,
+        Err(Ended::Spent) => Tried::Spent,
+    }
+}
 
 /// Makes one attempt at a job, by its operations in order, and lets reads go.
 pub(crate) fn attempt_releasing(
@@ -114,6 +139,7 @@ fn run<'a>(tx: &mut Tx<'a, StoreLaw>, body: &mut CompBody) -> Result<(), Again>
     ensures leads { Leads ⟦<Tx<'a, StoreLaw> as Mem>⟧ tx.old tx.new result }
     ensures looks { OnOk result (body.new.outcome ≡ Outcome.Blocked →
         OnlyReads ⟦<Tx<'a, StoreLaw> as Mem>⟧ tx.old tx.new) }
+    ensures outside { OnOk result (KeepsOut body.new.task (live_held tx.new.caller.now) (live_opened tx.new.caller.now)) }
     ensures kept { engine.let_go tx.new.caller.now ≡ engine.let_go tx.old.caller.now }
     ensures few { sights tx.new.caller.now ≤ looks tx.new.caller.now }
 {

@@ -1,4 +1,4 @@
-use Rattle.std.proofs.Common.{◌∙◌, ◌||◌, refl, ap, subst, sym, List, ℕ, false, ◌≡◌, ◌≢◌, is_some, None, Some, Option, IfSome}
+use Rattle.std.proofs.Common.{◌∙◌, ◌||◌, ◌&&◌, Bool, if◌then◌else◌, refl, ap, subst, sym, List, ℕ, false, ◌≡◌, ◌≢◌, is_some, None, Some, Option, IfSome}
 use Rattle.dstm_model.specs.declared.layout.Layout.{Layout}
 use Rattle.dstm_model.specs.Objects.{objects_of}
 use Rattle.dstm_mem.specs.Memory.{with_set}
@@ -8,11 +8,11 @@ use Rattle.dstm_engine.proofs.Made.{Tried, home, keeps_reads, same_done, tried}
 use Rattle.dstm_engine.proofs.Abandoning.{under_way}
 use Rattle.dstm_model.specs.declared.value.Val.{Val}
 use Rattle.dstm_engine.specs.Attempts.{Admits}
-use Rattle.dstm_engine.specs.Callers.{Called, is_opened, shape_of, written}
+use Rattle.dstm_engine.specs.Callers.{Called, held, is_opened, shape_of, written}
 use Rattle.dstm_engine.specs.Makes.{let_go}
 use Rattle.dstm_engine.specs.Outcomes.{IsLeft, Promises}
 use Rattle.dstm_engine.specs.Transactions.{TxPlace}
-use Rattle.dstm_compose.specs.Compose.{IsRight}
+use Rattle.dstm_compose.specs.Compose.{IsRight, KeepsOut}
 use Rattle.dstm_compose.specs.declared.body.Outcome.{Outcome}
 use Rattle.dstm_compose.specs.declared.body.Outcome.TheVariants.{Blocked, Ran}
 use Rattle.dstm_store.specs.declared.job.JobTask.{JobTask}
@@ -22,6 +22,7 @@ use Rattle.dstm_order.specs.Tasks.Task.{Beginning, Leaving}
 use Rattle.dstm_order.specs.Retries.{TriesAgain}
 use Rattle.dstm_engine.proofs.AddingUp.{makes_both, makes_one}
 use Rattle.dstm_tables.proofs.Made.{is_spent_from, run_there}
+use Rattle.dstm_jobs.proofs.Inside.{KeepsOutOf, branch_out}
 use Rattle.dstm_jobs.proofs.Made.{objects_are}
 use Rattle.dstm_jobs.proofs.Branched.{aborted_fresh, aborts, calls_by, did_commit, one_more_by, rests, right_for, stood_at, unopened_by, was_dead, was_left}
 use Rattle.dstm_engine.proofs.LettingGo.{lets_none_go}
@@ -61,6 +62,17 @@ right c is same map admits =
     (ap (λ (j : JobTask). j.ops) c.in-Ok-run.ensures.task ∙ c.make-body.ensures.ops) same
     (c.in-Ok-run.ensures.right map admits)
 
+-- what is foreign to the job was neither held nor opened
+outside : (c : In-Ok-run) → KeepsOutOf c.args.layout.now c.args.job.now.ops (held c.run.new.tx.caller.now)
+    (is_opened c.run.new.tx.caller.now)
+outside c =
+    let t = c.run.new.tx.caller.now in
+    branch_out c.args.layout.now c.args.job.now.ops c.run.new.body.task (held t) (is_opened t)
+    (ap (λ (j : JobTask). j.layout) c.in-Ok-run.ensures.task ∙ c.make-body.ensures.layout)
+    (ap (λ (j : JobTask). j.ops) c.in-Ok-run.ensures.task ∙ c.make-body.ensures.ops)
+    (subst (λ (b : Bool). KeepsOut c.run.new.body.task (λ o. if b then held t o else None) (λ o. b && is_opened t o))
+    c.in-Ok-run.ensures.leads.live c.in-Ok-run.ensures.outside)
+
 pub returns-in-Err-clause-tried : goal.returns-in-Err-clause-tried
 returns-in-Err-clause-tried c =
     is_spent_from c.args.caller.now _ c.requires.rest (rw c.in-Err.is at c.begin.follows.holds-at-none)
@@ -84,7 +96,7 @@ returns-in-Ok-commit-clause-tried c =
     did_commit (ran at.After-caller-in-Ran-1) c.requires.rest c.args.layout.now c.args.job.now
     (record { number = c.in-Ok-commit.number; replies = c.in-Ran.replies }) c.requires.law end.kept end.attempt
     end.stays.steps.run end.ended.told end.number
-    (right at.In-Ok-run (Ran c.in-Ran.replies) (sym c.outcome.ensures ∙ c.in-Ran.is))
+    (right at.In-Ok-run (Ran c.in-Ran.replies) (sym c.outcome.ensures ∙ c.in-Ran.is)) (outside at.In-Ok-run)
     (record { ran = c.run.new.tx.caller.now; few = c.in-Ok-run.ensures.few; commit = end.stays.steps })
 
 pub returns-in-Err-commit-clause-tried : goal.returns-in-Err-commit-clause-tried

@@ -6,6 +6,7 @@ use Rattle.dstm_jobs.specs.declared.style.Style.TheVariants.{Loose}
 use Rattle.dstm_jobs.specs.Law.{keeps}
 use Rattle.dstm_tables.specs.declared.tables.Caller.TheVariants.{Dstm}
 use Rattle.dstm_jobs.proofs.Doing.{did_plain}
+use Rattle.dstm_jobs.proofs.Inside.{dstm_inside, plain_out}
 use Rattle.dstm_tables.proofs.Made.{did, is_spent_from, one_more, was_kept}
 use Rattle.dstm_jobs.proofs.Made.{few_loose}
 use Rattle.dstm_jobs.proofs.dstm.attempt_releasing.Goals as goal
@@ -16,11 +17,15 @@ returns-in-Ok c =
     let n = c.attempt_loose.new.caller in
     let body = c.attempt_loose.new.body in
     let task = c.attempt_loose.ensures.task in
+    let layout = ap (λ (t : JobTask). t.layout) task ∙ c.make-body.ensures.layout in
     let ops = ap (λ (t : JobTask). t.ops) task ∙ c.make-body.ensures.ops in
     let attempts = c.in-Ok.ensures.attempts in
+    let runs = c.in-Ok.ensures.runs in
     did_plain c.args.layout.now c.args.job.now (Dstm k) (Dstm n)
-    (record { number = c.in-Ok.done.number; replies = c.replies.result }) c.requires.law Loose body
-    (ap (λ (t : JobTask). t.layout) task ∙ c.make-body.ensures.layout) ops c.replies.ensures (c.requires.can.plain (λ is. cc))
+    (record { number = c.in-Ok.done.number; replies = c.replies.result }) c.requires.law
+    (λ by is. dstm_inside c.args.layout.now c.args.job.now.ops runs.ran n c.in-Ok.done.number runs.commits
+    (plain_out c.args.layout.now c.args.job.now.ops body.task _ _ layout ops runs.left.1) by _ is)
+    Loose body layout ops c.replies.ensures (c.requires.can.plain (λ is. cc))
     (did _ k n c.in-Ok.done.number c.requires.rest (one_more k n None c.requires.rest attempts) (attempts.status refl)
     c.in-Ok.ensures.settles)
     (few_loose c.args.job.now k n body.task c.attempt_loose.ensures.table ops c.in-Ok.ensures.few)

@@ -50,6 +50,11 @@ returns-clause-leads c =
           (is_live x.caller.now ≡ false) × (x.caller.now.left ≡ Some e))) (sym is) leads.ended;
     }
 
+pub returns-clause-outside : goal.returns-clause-outside
+returns-clause-outside c =
+    let is = same (goal.at.returns-clause-outside c).After-tx-1 in
+    rw is (in_case c.run.result (λ leaves. leaves.1) c.run.ensures.leaves)
+
 pub returns-clause-looks : goal.returns-clause-looks
 returns-clause-looks c =
     let is = same (goal.at.returns-clause-looks c).After-tx-1 in

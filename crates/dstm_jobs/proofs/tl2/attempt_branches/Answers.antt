@@ -15,6 +15,7 @@ use Rattle.dstm_jobs.specs.Law.{keeps}
 use Rattle.dstm_jobs.specs.Tables.{WasKept}
 use Rattle.dstm_tables.proofs.ByTl2.{tl2_did, tl2_kept, tl2_spent}
 use Rattle.dstm_jobs.proofs.Doing.{did_branch}
+use Rattle.dstm_jobs.proofs.Inside.{branch_out, tl2_inside}
 use Rattle.dstm_jobs.proofs.JobsByTl2.{stood_at}
 use Rattle.dstm_jobs.proofs.tl2.attempt_branches.Goals as goal
 
@@ -42,6 +43,10 @@ returns-in-Ok-commit c = λ rechecks.
     (record { number = c.in-Ok-commit.number; replies = c.in-Ran.replies })) _ _ _ _ (assumption c) name
     (did_branch c.args.layout.now c.args.job.now (Tl2 k) (Tl2 n)
     (record { number = c.in-Ok-commit.number; replies = c.in-Ran.replies }) c.requires.law
+    (λ by is. tl2_inside c.args.layout.now c.args.job.now.ops t n c.in-Ok-commit.number commit.number
+    (branch_out c.args.layout.now c.args.job.now.ops c.run.new.self.task _ _
+    (ap (λ (j : JobTask). j.layout) ran.task ∙ c.make-body.ensures.layout)
+    (ap (λ (j : JobTask). j.ops) ran.task ∙ c.make-body.ensures.ops) ran.leaves.1) by _ is)
     (tl2_did _ k n c.in-Ok-commit.number c.requires.rest
     (made keeps k b t _ _ _ _ begins place n _ commit.kept commit.stays.attempt commit.number.free
     (λ _. commit.number.valid) commit.seen commit.stays.steps.run commit.told)
