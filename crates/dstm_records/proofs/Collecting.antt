@@ -115,6 +115,7 @@ row_given_up {workload = workload} {before = before} {rows = rows} {start = star
           (store_after workload ((before ++ rows) ++ row ∷ []))) (sym given.nothing_written)
           (subst (StandsFor workload.layout map) (sym same) c.stands);
       replies = λ kept. absurd (true≢false (ap is_given_up (sym given.replies) ∙ kept));
+      inside = λ kept. absurd (true≢false (ap is_given_up (sym given.replies) ∙ kept));
       nothing_read = λ _. given.nothing_read;
       nothing_written = λ _. given.nothing_written;
     }) (record {

@@ -4,6 +4,7 @@ use Rattle.std.proofs.Common.{◌≡◌, false, eqb, List, [], ◌∷◌, ◌++�
 use Rattle.std.specs.Prelude.{IsSomeAnd, IfSome, find}
 use Rattle.std.proofs.lemmas.List.{append-nil}
 use Rattle.dstm_records.proofs.Base.{Agrees, AllBlocked, AnswersWhere, Committed, Entry, GivesReplies, IsAnsweredBy, IsBefore, IsGoodRow, IsLegal, Job, JobOutcome, Row, StandsFor, TellOf, TellsOf, Val, Workload, after_job, after_rows, apply_job, entries_of, first_job, is_given_up, job_of, jobs_left, last_row, store_after, store_left, with_writes}
+use Rattle.dstm_jobs.specs.Answers.{StaysOut}
 use Rattle.dstm_model.specs.declared.reply.Reply.{Reply}
 use Rattle.dstm_model.specs.Map.{state_after}
 use Rattle.dstm_model.specs.Store.{Store, opening_store}
@@ -48,13 +49,14 @@ tells workload before row {map = map} done job stands agrees number is kept answ
     let layout = workload.layout in
     let leaves : StandsFor layout (with_writes map done.entry.writes) (store_left (apply_job job.ops there) there) =
     left_by _ (StandsFor layout (with_writes map done.entry.writes)) (apply_job job.ops there) there
-    (λ outcome h. h.1) (answered map there stands agrees) in
+    (λ outcome h. h.1) (answered.answers map there stands agrees) in
     record {
       number = number;
       store = subst (StandsFor layout (with_writes map done.entry.writes)) (sym (store_push workload before row job is)) leaves;
       replies = λ _ lawful held holds reads.
           subst (λ (o : Option Job). GivesReplies o held row.replies) (sym is)
-          (weaker _ _ (apply_job job.ops held) (λ outcome h. h.0) (answered lawful held holds reads));
+          (weaker _ _ (apply_job job.ops held) (λ outcome h. h.0) (answered.answers lawful held holds reads));
+      inside = λ _. subst (λ (o : Option Job). IsSomeAnd o (λ j. StaysOut layout j.ops done.entry)) (sym is) answered.inside;
       nothing_read = λ given_up. absurd (true≢false (sym given_up ∙ kept));
       nothing_written = λ given_up. absurd (true≢false (sym given_up ∙ kept));
     }
@@ -66,7 +68,7 @@ pub answers_there : (workload : Workload) (before : List Row) (replies : List Re
     IsSomeAnd (apply_job job.ops (store_after workload before)) (λ outcome. replies ≡ outcome.replies)
 answers_there workload before replies map entry job stands agrees answered =
     weaker _ _ (apply_job job.ops (store_after workload before)) (λ outcome h. h.0)
-    (answered map (store_after workload before) stands agrees)
+    (answered.answers map (store_after workload before) stands agrees)
 
 -- ---- rows behind rows
 

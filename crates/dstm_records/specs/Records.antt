@@ -23,7 +23,7 @@ use Rattle.dstm_options.specs.declared.options.Engine.TheVariants as engine
 use Rattle.dstm_options.specs.declared.options.Options.{Options}
 use Rattle.dstm_jobs.specs.Tables.{IsOf, Round, layout_of}
 use Rattle.dstm_tables.specs.declared.tables.Round.TheVariants.{Dstm, Tl2}
-use Rattle.dstm_jobs.specs.Answers.{KeepsFew}
+use Rattle.dstm_jobs.specs.Answers.{KeepsFew, StaysOut}
 use Rattle.dstm_jobs.specs.Jobs.{HadToStop, NoneWasted}
 use Rattle.dstm_jobs.specs.Tables as known
 use Rattle.dstm_tables.specs.Tells.{ByCalls, IsSpent, begun_of, callers_of, committed_of, let_go_by, start_of, values_of}
@@ -95,6 +95,10 @@ pub record TellsOf (workload : Workload) (before : List Row) (row : Row) (map : 
       is_given_up row.replies ≡ false → (lawful : List Val) (held : Store)
       → StandsFor workload.layout lawful held → Agrees lawful done.entry.reads
       → GivesReplies (job_of workload row) held row.replies
+  -- it has read and written no object that is foreign to the job: that no operation and no condition of it is about
+  pub inside :
+      is_given_up row.replies ≡ false
+      → IsSomeAnd (job_of workload row) (λ job. StaysOut workload.layout job.ops done.entry)
   -- where the job was given up, the transaction read and wrote nothing
   pub nothing_read : is_given_up row.replies ≡ true → done.entry.reads ≡ []
   pub nothing_written : is_given_up row.replies ≡ true → done.entry.writes ≡ []
