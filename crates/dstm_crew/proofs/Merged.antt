@@ -28,7 +28,7 @@ use Rattle.dstm_crew.specs.Workers.{AreDone, next_job}
 use Rattle.dstm_crew.specs.declared.share.Share.{Share}
 use Rattle.dstm_tables.specs.Tells.{lets_go, all_done, callers_of, committed_of, done_of}
 use Rattle.dstm_tables.proofs.History.{is_history}
-use Rattle.dstm_crew.specs.Collecting.{AreRunBy, AreTaken, CanCollect, HasCollected, IsFit, IsNext, IsRowOf, caller_of, head, number_at}
+use Rattle.dstm_crew.specs.Collecting.{AreRunBy, AreSpent, AreTaken, CanCollect, HasCollected, IsFit, IsLeast, IsNext, IsRowOf, caller_of, head, heads, number_at}
 use Rattle.dstm_crew.specs.Shares.{AreShared, IsShared}
 use Rattle.dstm_crew.proofs.Going.{Comes, Going, at_end, at_place, comes, drop_at, each_place, finished_at, found, get_drop, going_first, going_more, heads_at, same_line, same_turn, workers_apart}
 use Rattle.dstm_crew.proofs.Jobs.{first_of_jobs, has_some}
@@ -495,12 +495,12 @@ pub record Turn (workload : Workload) (shares : List Share) (turns : Turning) (n
 
 pub its_turn : {workload : Workload} {round : ℕ} {before : List Row} {shares : List Share} {rows : List Row}
     {turns : Turning}
-    {next seen : List ℕ} {at : ℕ} {share : Share} (place : ℕ) → Collects workload round before shares rows turns next →
-    seen ≡ next → IsNext shares seen at → share ≡ get_or shares at share → place ≡ get_or next at place →
+    {next : List ℕ} {numbers : List (Option ℕ)} {at : ℕ} {share : Share} (place : ℕ) →
+    Collects workload round before shares rows turns next → numbers ≡ heads shares next → IsLeast numbers at → share ≡ get_or shares at share → place ≡ get_or next at place →
     Turn workload shares turns next at share place
 its_turn {workload = workload} {shares = shares} {rows = rows} {turns = turns} {next = next} {at = at} {share = share}
     place c same is_next share_is place_is =
-    by (subst (λ (ns : List ℕ). IsNext shares ns at) same is_next)
+    by (subst (λ (ns : List (Option ℕ)). IsLeast ns at) same is_next)
   where
     by : IsNext shares next at → Turn workload shares turns next at share place
     by is =
@@ -526,8 +526,9 @@ its_turn {workload = workload} {shares = shares} {rows = rows} {turns = turns} {
 
 pub collects_more : {workload : Workload} {round : ℕ} {before : List Row} {shares : List Share}
     {rows rows_then : List Row}
-    {turns turns_then : Turning} {next seen : List ℕ} {at : ℕ} {share : Share} {place : ℕ} {row : Row} →
-    Collects workload round before shares rows turns next → seen ≡ next → IsNext shares seen at →
+    {turns turns_then : Turning} {next : List ℕ} {numbers : List (Option ℕ)} {at : ℕ} {share : Share} {place : ℕ}
+    {row : Row} →
+    Collects workload round before shares rows turns next → numbers ≡ heads shares next → IsLeast numbers at →
     Turn workload shares turns next at share place → rows_then ≡ rows ++ row ∷ [] → IsRowOf workload round share place row →
     turns_then ≡ record turns { left = without_first share.worker turns.left } →
     Collects workload round before shares rows_then turns_then (set next at (place + 1))
@@ -541,7 +542,7 @@ collects_more {workload = workload} {round = round} {before = before} {shares = 
       going = going_more at c.going t.there some row_is;
       merged = λ options r callers run.
           merged_more workload options r shares callers run
-          (c.merged options r callers run) c.going t.there (subst (λ (ns : List ℕ). IsNext shares ns at) same is_next) row_is;
+          (c.merged options r callers run) c.going t.there (subst (λ (ns : List (Option ℕ)). IsLeast ns at) same is_next) row_is;
     })))
   where
     row_is : IsRowOf workload round share (get_or next at 0) row
@@ -551,9 +552,10 @@ collects_more {workload = workload} {round = round} {before = before} {shares = 
     some = subst (λ (p : ℕ). p < length share.done.items) t.place_is t.some
 
 pub collects_last : {workload : Workload} {options : Options} {round : ℕ} {r : Round}
-    {shares : List Share} {callers : List ℕ} {before rows : List Row} {turns : Turning} {next seen : List ℕ} →
-    Collects workload round before shares rows turns next → seen ≡ next → AreTaken shares seen →
+    {shares : List Share} {callers : List ℕ} {before rows : List Row} {turns : Turning} {next : List ℕ}
+    {numbers : List (Option ℕ)} →
+    Collects workload round before shares rows turns next → numbers ≡ heads shares next → AreSpent numbers →
     AreRunBy workload options r shares callers → HasCollected workload options round r shares callers before rows turns
 collects_last {workload = workload} {options = options} {r = r} {shares = shares} {callers = callers} c same taken run =
     merged_last workload options r shares callers run (c.merged options r callers run) c.going
-    (subst (AreTaken shares) same taken)
+    (subst AreSpent same taken)

@@ -12,6 +12,6 @@ worker_send =
       search sendable depth 20,
       (
         search (caller_send, crosses, sendable) depth 20,
-        (search (crosses, sendable) depth 20, (search (Finished.the_send, crosses, sendable) depth 20, tt)),
+        (search (crosses, sendable) depth 20, (search (Finished.the_send, crosses, sendable) depth 20, (search sendable depth 20, tt))),
       ),
     )

@@ -45,11 +45,23 @@ heads shares next = map (λ pair. number_at pair.0 pair.1) (zip shares next)
 abbrev pub head : List Share → (next : List ℕ) → ℕ → Option ℕ
 head shares next place = slice_index_or (heads shares next) place None
 
--- no share has a lower number next than the one at this place
-pub record IsNext (shares : List Share) (next : List ℕ) (place : ℕ) : Type 0 where
+-- the number at a place of a list
+abbrev pub number_in : (numbers : List (Option ℕ)) → ℕ → Option ℕ
+number_in numbers place = slice_index_or numbers place None
+
+-- the number at this place is the least of a list
+pub record IsLeast (numbers : List (Option ℕ)) (place : ℕ) : Type 0 where
   pub number : ℕ
-  pub own : head shares next place ≡ Some number
-  pub least : (other : ℕ) → IfSome (head shares next other) (λ n. number ≤ n)
+  pub own : number_in numbers place ≡ Some number
+  pub least : (other : ℕ) → IfSome (number_in numbers other) (λ n. number ≤ n)
+
+-- a list has no number
+abbrev pub AreSpent : (numbers : List (Option ℕ)) → Type 0
+AreSpent numbers = (place : ℕ) → number_in numbers place ≡ None
+
+-- no share has a lower number next than the one at this place
+abbrev pub IsNext : List Share → (next : List ℕ) → (place : ℕ) → Type 0
+IsNext shares next place = IsLeast (heads shares next) place
 
 -- a place and a number, unless what was found before has a number that is not greater
 abbrev pub lesser_of : Option (ℕ × ℕ) → (place number : ℕ) → Option (ℕ × ℕ)
@@ -58,7 +70,7 @@ lesser_of (Some found) place number = if nat_le found.1 number then Some found e
 
 -- nothing is left of any share
 abbrev pub AreTaken : List Share → (next : List ℕ) → Type 0
-AreTaken shares next = (place : ℕ) → head shares next place ≡ None
+AreTaken shares next = AreSpent (heads shares next)
 
 -- the row of what stands at this place of what was done of a share
 pub record IsRowOf (workload : Workload) (round : ℕ) (share : Share) (place : ℕ) (row : Row) : Type 0 where

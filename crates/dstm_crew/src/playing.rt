@@ -29,6 +29,7 @@ pub fn play_parallel<R: Threads + Sync, G: Gate + Sync>(
 {
     let shares = shares_of(alloc, play.workload, number, &progress.turns)?;
     let next = vec![in alloc; 0; shares.len()]?;
+    let numbers = vec![in alloc; None; shares.len()]?;
     let values = replace(&mut progress.values, Vec::new(alloc));
     let (shares, left) = run_shares(
         rt,
@@ -46,6 +47,7 @@ pub fn play_parallel<R: Threads + Sync, G: Gate + Sync>(
         number,
         &shares,
         next,
+        numbers,
         &mut progress.turns,
         &mut progress.rows,
     );

@@ -40,6 +40,7 @@ fn retire(table: &Table, founder: &mut Founder, worker: Worker) -> Share
         caller,
         places,
         done,
+        ..
     } = worker;
     founder.retire(table, caller);
     Share {

@@ -60,5 +60,6 @@ fn seat(
         caller,
         places,
         done,
+        apart: [0; 16],
     })
 }

@@ -21,6 +21,8 @@ pub struct Worker {
     pub places: Vec<usize>,
     /// What was done of them, from the first on. There is room for all.
     pub done: Done,
+    /// Workers stand in a row. This keeps what one writes off the lines of memory of the next one.
+    pub apart: [u64; 16],
 }
 
 impl Worker {

@@ -1,11 +1,11 @@
-use Rattle.std.proofs.Common.{List, length, sym, ap, subst, arith}
+use Rattle.std.proofs.Common.{◌≡◌, ◌∙◌, List, length, replicate, sym, ap, subst, arith}
 use Rattle.std.proofs.lemmas.List.{length-map}
 use Rattle.dstm_model.specs.declared.value.Val.{Val}
 use Rattle.dstm_report.specs.Turns.{Turning}
 use Rattle.dstm_crew.specs.declared.progress.Progress.{Progress}
 use Rattle.dstm_crew.specs.declared.share.Share.{Share}
 use Rattle.dstm_crew.specs.Collecting.{AreRunBy, CanCollect, HasCollected}
-use Rattle.dstm_crew.specs.Shares.{WereRun, workers_of}
+use Rattle.dstm_crew.specs.Shares.{WereRun, asked_of, workers_of}
 use Rattle.dstm_crew.proofs.Stood.{can_collect, has_played, run_by}
 use Rattle.dstm_crew.proofs.Workers.{workers_few, workers_some}
 use Rattle.dstm_crew.proofs.playing.play_parallel.Given.{Over}
@@ -38,6 +38,24 @@ ran g c =
     subst (λ (vs : List Val). WereRun c.args.play.now.workload.now c.args.play.now.options.now c.args.number vs
     c.in_ok-shares-2.left.items c.in_ok-shares.shares.items c.in_ok-shares-2.shares.items c.in_ok-shares-2.ensures.run.0)
     (ap (λ v. v.items) c.replace-values.ensures.value) c.in_ok-shares-2.ensures.run.1.1
+
+-- as many shares come back as were run
+as_many : (g : Over) (c : In_ok-shares-2 g) → c.in_ok-shares.shares.len ≡ length c.in_ok-shares-2.shares.items
+as_many g c =
+    c.in_ok-shares.shares.ok.0 ∙ sym (length-map c.in_ok-shares.shares.items asked_of)
+    ∙ sym (ap length c.in_ok-shares-2.ensures.run.1.1.same) ∙ length-map c.in_ok-shares-2.shares.items asked_of
+
+pub collect-requires-clause-next : goal.collect-requires-clause-next
+collect-requires-clause-next g c =
+    c.in_ok-next.ensures.items_if_clones_equal (λ y same. same)
+    ∙ ap (λ n. replicate n 0) (c.len.ensures ∙ as_many g (goal.at.collect-requires-clause-next g c).In_ok-shares-2
+    ∙ sym (ap length c.deref.ensures.value))
+
+pub collect-requires-clause-numbers : goal.collect-requires-clause-numbers
+collect-requires-clause-numbers g c =
+    sym c.in_ok-numbers.numbers.ok.0
+    ∙ (c.in_ok-numbers.ensures.len ∙ c.len-2.ensures) ∙ as_many g (goal.at.collect-requires-clause-numbers g c).In_ok-shares-2
+    ∙ sym (ap length c.deref.ensures.value)
 
 pub collect-requires-clause-can : goal.collect-requires-clause-can
 collect-requires-clause-can g c =
