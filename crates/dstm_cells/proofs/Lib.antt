@@ -2,6 +2,7 @@ mod Alternating
 mod Calling
 pub mod Closures
 pub mod Found
+mod Reading
 mod Running
 pub mod Sends
 mod Spending

@@ -1,19 +1,22 @@
 -- What follows for a run from its seats, and from why it failed.
-use Rattle.std.proofs.Common.{◌≡◌, ◌∙◌, ◌∷◌, [], ◌++◌, ◌+◌, ◌<◌, ℕ, List, Ok, Err, ap, arith, drop, length, subst, sym, take, inl, inr, ⊎_elim}
-use Rattle.std.specs.Prelude.{◌⊎◌, All, IfErr, OnOk, Result, slice_index_or}
+use Rattle.std.proofs.Common.{◌≡◌, ◌∙◌, ◌∷◌, [], ◌++◌, ◌+◌, ◌<◌, ℕ, List, Ok, Err, ap, append_assoc, arith, drop, length, map, refl, subst, suc, sym, take, zero, inl, inr, ⊎_elim}
+use Rattle.std.specs.Prelude.{◌⊎◌, All, IfErr, IfOk, IsErrAnd, OnOk, Result, slice_index_or}
 use Rattle.std.proofs.lemmas.Bool.{cases_lt}
 use Rattle.std.proofs.lemmas.Grind.{common_steps}
-use Rattle.std.proofs.lemmas.List.{get_or_push, length_push}
+use Rattle.std.proofs.lemmas.List.{get_or-map, get_or_push, length-append, length-map, length_push, map_push}
 use Rattle.std.proofs.Math.ListN.{get_or-append}
+use denote.Ref.{MutBor}
+use Rattle.std.specs.Fn.{Shared}
 use Rattle.dstm_cells.specs.declared.error.Failed.{Failed}
 use Rattle.dstm_cells.specs.declared.error.Failed.TheVariants as failed
+use Rattle.dstm_cells.specs.declared.error.GaveUp.{GaveUp}
 use Rattle.dstm_cells.specs.declared.memory.Seat.{Seat}
 use Rattle.dstm_model.specs.declared.value.Law.{Ghosts}
 use Rattle.dstm_model.specs.declared.value.Val.{Val}
 use Rattle.dstm_engine.specs.Tables as dstm
 use Rattle.dstm_tl2_engine.specs.Tables as tl2
 use Rattle.dstm_tables.specs.Engines.{WorksBy}
-use Rattle.dstm_tables.specs.Founders.{Enrols, made_of}
+use Rattle.dstm_tables.specs.Founders.{Enrols, founded, made_of}
 use Rattle.dstm_tables.specs.declared.engine.Engine.{Engine}
 use Rattle.dstm_tables.specs.declared.founding.Founder.{Founder}
 use Rattle.dstm_tables.specs.declared.founding.Founder.TheVariants as founder
@@ -21,8 +24,8 @@ use Rattle.dstm_tables.specs.declared.tables.Caller.{Caller}
 use Rattle.dstm_tables.specs.declared.tables.Caller.TheVariants as caller
 use Rattle.dstm_tables.specs.declared.tables.Table.{Table}
 use Rattle.dstm_cells.specs.Attempts.{CouldNotRead}
-use Rattle.dstm_cells.specs.Cells.{Founds, ReadsAll}
-use Rattle.dstm_cells.specs.Runs.{End, FailsFor, IsFirst, LeavesBy, OnItsTable, Ran, WasUnread}
+use Rattle.dstm_cells.specs.Cells.{Founds, ReadsAll, Takes}
+use Rattle.dstm_cells.specs.Runs.{AnswerEach, End, EndsSo, FailsByFirst, FailsFor, HaveAnswered, IsFirst, IsFirstOf, LeavesBy, OnItsTable, Ran, WasCalled, WasUnread}
 
 -- a vector that was lent as a slice has what was left there, in the same number
 pub lent_back : {X : Type 0} {n count : ℕ} {new whole : List X} (old : List X) → length old ≡ count →
@@ -63,10 +66,10 @@ module _ {L : Type 0} {ghosts : Ghosts L} (seats : List (Seat L ghosts)) where
   pub ran_leaves : (ran same : Type 0) (answer : Result (Unit {0}) Failed) → IfErr answer (IsFirst seats) → ran →
       LeavesBy ran same answer
   ran_leaves ran same (Ok x) first left = left
-  ran_leaves ran same (Err why) first left = subst (λ w. LeavesBy ran same (Err w)) (sym first.is) left
+  ran_leaves ran same (Err why) first left = subst (λ w. LeavesBy {X = Unit {0}} ran same (Err w)) (sym first.is) left
 
   module _ (left : List (Seat L ghosts)) (threads : ℕ) (same : (seats ≡ left) × (length seats ≡ threads))
-      (ended : ℕ → End → Type 0) (other : Seat L ghosts)
+      (ended : ℕ → End (Unit {0}) → Type 0) (other : Seat L ghosts)
       (each : (number : ℕ) → number < threads → ended number (slice_index_or left number other).ended) where
     at_seat : (number : ℕ) → number < threads → ended number (slice_index_or seats number other).ended
     at_seat number below =
@@ -86,8 +89,8 @@ module _ {L : Type 0} {ghosts : Ghosts L} (seats : List (Seat L ghosts)) where
           below = omega (arith, same.1, first.below);
           ends = subst (ended first.number) (first.ends other) (at_seat first.number (omega (arith, same.1, first.below)));
           before = λ earlier less.
-              subst (ended earlier) (first.before earlier less other)
-              (at_seat earlier (omega (arith, same.1, less, first.below)));
+              let (answer, is) = first.before earlier less in
+              (answer, subst (ended earlier) (is other) (at_seat earlier (omega (arith, same.1, less, first.below))));
         })
 
     -- what a run tells of its threads
@@ -96,6 +99,139 @@ module _ {L : Type 0} {ghosts : Ghosts L} (seats : List (Seat L ghosts)) where
         OnOk answer ((number : ℕ) → number < threads → ended number (Ok tt)) × IfErr answer (FailsFor ended unread threads)
     told unread (Ok x) well first = (all_ended well, tt)
     told unread (Err why) well first = (tt, first_ended unread why first)
+
+  -- what it answers, from how the threads of these seats have ended
+  pub tells_ends : (left : List (Seat L ghosts)) (threads : ℕ) → (seats ≡ left) × (length seats ≡ threads) →
+      (other : Seat L ghosts) (answer : Result (Unit {0}) Failed) →
+      OnOk answer (All (λ (seat : Seat L ghosts). seat.ended ≡ Ok tt) seats) → IfErr answer (IsFirst seats) →
+      OnOk answer ((number : ℕ) → number < threads → (slice_index_or left number other).ended ≡ Ok tt)
+      × FailsByFirst (λ number. (slice_index_or left number other).ended) threads answer
+  tells_ends left threads same other answer well first =
+      told left threads same (λ number end. (slice_index_or left number other).ended ≡ end) other (λ number below. refl) ⊥ answer
+      well first
+
+-- ---- where a run hands back what its threads have answered
+
+abbrev well : {T : Type 0} → T → End T
+well answer = Ok answer
+
+at_length : {A : Type 0} (before rest : List A) (item other : A) → slice_index_or (before ++ item ∷ rest) (length before) other ≡ item
+at_length before rest item other =
+    let more = length_push before item in
+    ap (λ items. slice_index_or items (length before) other) (sym (append_assoc before (item ∷ []) rest))
+    ∙ get_or-append (before ++ item ∷ []) rest other (length before) (omega (arith, more))
+    ∙ get_or_push before item other (length before) refl
+
+module _ {T : Type 0} where
+  -- one more has ended well
+  pub answered_push : (ends : List (End T)) (answers : List T) (end : End T) (answer : T) → HaveAnswered ends answers →
+      end ≡ Ok answer → HaveAnswered (ends ++ end ∷ []) (answers ++ answer ∷ [])
+  answered_push ends answers end answer have is =
+      ap (λ ends. ends ++ end ∷ []) have ∙ ap (λ end. map well answers ++ end ∷ []) is ∙ sym (map_push well answers answer)
+
+  pub as_many : (ends : List (End T)) (answers : List T) → HaveAnswered ends answers → length answers ≡ length ends
+  as_many ends answers have = sym (length-map answers well) ∙ sym (ap length have)
+
+  answer_at : (ends : List (End T)) (answers : List T) → HaveAnswered ends answers → (number : ℕ) (other : End T)
+      (none : T) → number < length ends → slice_index_or ends number other ≡ Ok (slice_index_or answers number none)
+  answer_at ends answers have number other none below =
+      let same = as_many ends answers have in
+      ap (λ ends. slice_index_or ends number other) have
+      ∙ get_or-map well answers number none other (omega (arith, same, below))
+
+  answer_before : (ends : List (End T)) (answers : List T) → HaveAnswered ends answers → (number : ℕ) →
+      number < length ends → (answer : T) × EndsSo ends number (Ok answer)
+  answer_before ends [] have number below =
+      let none : zero ≡ length ends = as_many ends [] have in absurd (omega (arith, none, below))
+  answer_before ends (first ∷ answers) have number below = (
+    slice_index_or (first ∷ answers) number first,
+    λ other. answer_at ends (first ∷ answers) have number other first below,
+  )
+
+  -- the first one that has not
+  pub first_failed : (ends before rest : List (End T)) (end : End T) (answers : List T) (why : GaveUp) →
+      before ++ end ∷ rest ≡ ends → HaveAnswered before answers → end ≡ Err why → IsFirstOf ends (failed.GaveUp why)
+  first_failed ends before rest end answers why are have is =
+      subst (λ all. IsFirstOf all (failed.GaveUp why)) are (record {
+        why = why;
+        is = refl;
+        first = record {
+          number = length before;
+          below =
+              let all = length-append before (end ∷ rest) in
+              let some : length (end ∷ rest) ≡ suc (length rest) = refl in
+              omega (arith, all, some);
+          ends = λ other. at_length before rest end other ∙ is;
+          before = λ earlier less.
+              let (answer, ended) = answer_before before answers have earlier less in (
+                answer,
+                λ other. get_or-append before (end ∷ rest) other earlier less ∙ ended other,
+              );
+        };
+      })
+
+  -- a run whose values were taken has left them, however its threads have ended
+  pub each_leaves : {X : Type 0} (ends : List (End T)) (ran same : Type 0) (answer : Result X Failed) →
+      IfErr answer (IsFirstOf ends) → ran → LeavesBy ran same answer
+  each_leaves ends ran same (Ok x) first left = left
+  each_leaves {X = X} ends ran same (Err why) first left = subst (λ w. LeavesBy {X = X} ran same (Err w)) (sym first.is) left
+
+  module _ (ends : List (End T)) (threads : ℕ) (size : length ends ≡ threads) (ended : ℕ → End T → Type 0) (other : End T)
+      (each : (number : ℕ) → number < threads → ended number (slice_index_or ends number other)) where
+    -- each has ended with the answer that is handed back for it
+    each_answered : (answers : List T) → HaveAnswered ends answers → (number : ℕ) (none : T) → number < threads →
+        ended number (Ok (slice_index_or answers number none))
+    each_answered answers have number none below =
+        subst (ended number) (answer_at ends answers have number other none (omega (arith, size, below))) (each number below)
+
+    -- and that is how the first one ended of which they do not
+    first_of : (unread : Type 0) (why : Failed) → IsFirstOf ends why → FailsFor ended unread threads why
+    first_of unread why it =
+        let first = it.first in
+        subst (FailsFor ended unread threads) (sym it.is) (record {
+          number = first.number;
+          below = omega (arith, size, first.below);
+          ends = subst (ended first.number) (first.ends other) (each first.number (omega (arith, size, first.below)));
+          before = λ earlier less.
+              let (answer, is) = first.before earlier less in
+              (answer, subst (ended earlier) (is other) (each earlier (omega (arith, size, less, first.below))));
+        })
+
+    -- what a run tells of its threads that hands back their answers
+    pub told_each : {V : Type 0} (unread : Type 0) (answer : Result V Failed) (items : V → List T) →
+        IfOk answer (λ v. HaveAnswered ends (items v)) → IfErr answer (IsFirstOf ends) →
+        IfOk answer (λ v. (number : ℕ) (none : T) → number < threads → ended number (Ok (slice_index_or (items v) number none)))
+        × IfErr answer (FailsFor ended unread threads)
+    told_each unread (Ok v) items have first = (each_answered (items v) have, tt)
+    told_each unread (Err why) items have first = (tt, first_of unread why first)
+
+  pub count_each : {V : Type 0} (ends : List (End T)) (threads : ℕ) → length ends ≡ threads → (answer : Result V Failed)
+      (items : V → List T) → IfOk answer (λ v. HaveAnswered ends (items v)) → IfOk answer (λ v. length (items v) ≡ threads)
+  count_each ends threads size (Ok v) items have = as_many ends (items v) have ∙ size
+  count_each ends threads size (Err why) items have = tt
+
+  -- what it answers, from how its threads have ended
+  pub tells_each : {V : Type 0} (ends : List (End T)) (threads : ℕ) → length ends ≡ threads → (other : End T)
+      (answer : Result V Failed) (items : V → List T) → IfOk answer (λ v. HaveAnswered ends (items v)) →
+      IfErr answer (IsFirstOf ends) →
+      IfOk answer (λ v. AnswerEach (λ number. slice_index_or ends number other) threads (items v))
+      × FailsByFirst (λ number. slice_index_or ends number other) threads answer
+  tells_each ends threads size other answer items have first =
+      told_each ends threads size (λ number end. slice_index_or ends number other ≡ end) other (λ number below. refl) ⊥ answer items
+      have first
+
+-- a call of a closure on a thread's part
+pub was_called : {S F R : Type 0} (g : Shared F (MutBor S × (ℕ × Unit {0})) (R × (MutBor S × Unit {0}))) (f : F) (number : ℕ)
+    (p q : MutBor S) (answer : R) → g.post f (p, (number, tt)) (answer, (q, tt)) → WasCalled g f number p.now answer
+was_called g f number p q answer met =
+    (q.now, record { shown = p; shows = refl; left = q; met = met; leaves = refl })
+
+-- a last caller of a table has taken its values
+pub last_takes : {L : Type 0} (holds : L → List Val → Type 0) {rule : L} {before after : List Val} {table : Table L}
+    {f : Founder L} (g : Founder L) (caller : Caller L) → Founds rule before table f → Enrols holds f g 0 caller →
+    ReadsAll holds caller after → Takes holds (founded table) g after
+last_takes holds {after = after} g caller founds enrols reads =
+    subst (λ new. Takes holds new g after) founds.founder (record { caller = caller; enrols = enrols; reads = reads })
 
 module _ {L : Type 0} (holds : L → List Val → Type 0) {engine : Engine} {rule : L} {before : List Val} {table : Table L} {f : Founder L}
     (g : Founder L) (caller : Caller L) (founds : Founds rule before table f) (works : WorksBy engine table)
@@ -114,11 +250,20 @@ module _ {L : Type 0} (holds : L → List Val → Type 0) {engine : Engine} {rul
   has_left reads = on_its_table (record { caller = caller; enrols = enrols; reads = reads })
 
   -- what has become of a run whose last caller could not read them
-  pub was_unread : {after : Caller L} → CouldNotRead 64 caller after → WasUnread holds engine rule before
+  pub was_unread : {after : Caller L} → CouldNotRead holds 64 caller after → WasUnread holds engine rule before
   was_unread {after} unread = on_its_table (record { caller = caller; enrols = enrols; after = after; unread = unread })
 
 -- why a run failed whose values were not taken
-pub untaken : (ended : ℕ → End → Type 0) (unread : Type 0) (threads : ℕ) (why : Failed) →
+pub untaken : {T : Type 0} (ended : ℕ → End T → Type 0) (unread : Type 0) (threads : ℕ) (why : Failed) →
     (why ≡ failed.Memory) ⊎ (why ≡ failed.Unread) → (why ≡ failed.Unread → unread) → FailsFor ended unread threads why
 untaken ended unread threads why (inl memory) shown = subst (FailsFor ended unread threads) (sym memory) tt
 untaken ended unread threads why (inr is) shown = subst (FailsFor ended unread threads) (sym is) (shown is)
+
+-- and it has left all as it was
+pub untaken_leaves : {X : Type 0} (ran same : Type 0) (answer : Result X Failed) (why : Failed) →
+    IsErrAnd answer (λ e. e ≡ why) → (why ≡ failed.Memory) ⊎ (why ≡ failed.Unread) → same → LeavesBy ran same answer
+untaken_leaves ran same (Ok x) why is cause left = absurd is
+untaken_leaves {X = X} ran same (Err e) why is (inl memory) left =
+    subst (λ w. LeavesBy {X = X} ran same (Err w)) (sym (is ∙ memory)) left
+untaken_leaves {X = X} ran same (Err e) why is (inr unread) left =
+    subst (λ w. LeavesBy {X = X} ran same (Err w)) (sym (is ∙ unread)) left

@@ -42,5 +42,5 @@ pub seat_send : (κ : NamedLft) (Y : RattleType) (law : Ghosts Y.Denot) → IsSy
 seat_send κ Y law sync =
     declared_send (Seat.the_type κ Y law) (
       part_send κ Y law sync,
-      (search (crosses, sendable) depth 20, tt),
+      (search sendable depth 20, (search (crosses, sendable) depth 20, tt)),
     )

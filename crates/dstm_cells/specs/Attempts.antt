@@ -1,11 +1,12 @@
 -- How the attempts of a transaction follow one another, and why there is no further one.
-use Rattle.std.specs.Prelude.{◌≡◌, ◌⊎◌, ℕ, ◌+◌, ◌≤◌, List, Result, Ok, Err}
+use Rattle.std.specs.Prelude.{◌≡◌, ◌⊎◌, ℕ, zero, suc, ◌+◌, ◌≤◌, false, List, Result, Ok, Err}
 use Rattle.dstm_model.specs.declared.value.Val.{Val}
 use Rattle.dstm_engine.specs.Attempts.{sights}
 use Rattle.dstm_tables.specs.declared.tables.Caller.{Caller}
 use Rattle.dstm_tables.specs.declared.tables.Caller.TheVariants.{Dstm, Tl2}
-use Rattle.dstm_attempts.specs.Attempts.{AddsNothing, IsSpent, Keeps, LooksChanged, LooksSpent, begun, clock}
+use Rattle.dstm_attempts.specs.Attempts.{AddsNothing, Begins, IsLost, IsNotOpened, IsSpent, Keeps, LooksChanged, LooksSpent, Opens, begun, clock, objects_of}
 use Rattle.dstm_attempts.specs.Waiting.{FindsChange, HasNoRoom, IsSpentLettingGo, LetsGo, RenewsNothing}
+use Rattle.dstm_attempts.specs.declared.error.NotOpened.TheVariants.{Over}
 use Rattle.dstm_cells.specs.declared.error.GaveUp.{GaveUp}
 use Rattle.dstm_cells.specs.declared.error.GaveUp.TheVariants.{Idle, Spent}
 use Rattle.dstm_cells.specs.declared.error.GaveUp.TheVariants as gave_up
@@ -13,12 +14,6 @@ use Rattle.dstm_cells.specs.declared.error.Why.{Why}
 use Rattle.dstm_cells.specs.declared.error.Why.TheVariants.{Again, Retry, Foreign, Memory}
 
 module _ {L : Type 0} where
-  -- WHY A CALLER COULD NOT READ ALL OBJECTS TOGETHER: it has no attempt left, or no locator; or it has begun so many attempts
-  -- more, and none of them has committed
-  pub record CouldNotRead (attempts : ℕ) (old new : Caller L) : Type 0 where
-    pub nothing : AddsNothing old new
-    pub why : IsSpent new ⊎ (begun new ≡ begun old + attempts)
-
   -- how often a caller has looked: of its last attempt under DSTM how often all that it had read was seen to be current,
   -- under TL2 how many attempts it has begun, since each look is one
   abbrev pub looked : Caller L → ℕ
@@ -53,6 +48,53 @@ module _ {L : Type 0} where
     pub still : clock new ≡ clock old
 
   module _ (holds : L → List Val → Type 0) where
+    -- the objects below this one were opened for reading, one after the other, and nothing else was done
+    abbrev pub ReadsInTurn : (object : ℕ) → Caller L → Caller L → Type 0
+    ReadsInTurn zero k n = n ≡ k
+    ReadsInTurn (suc object) k n = (m : Caller L) × ReadsInTurn object k m × Opens holds false object m n
+
+    -- an attempt that was to read the objects in turn is over: opening this one has left it, for a cause of the engine
+    pub record IsOverReading (k n : Caller L) : Type 0 where
+      pub object : ℕ
+      pub last : Caller L
+      pub before : ReadsInTurn object k last
+      pub over : IsNotOpened holds false object last n Over
+
+    -- an attempt has read all objects in turn, and its commit did not take effect
+    pub record IsLostReading (k n : Caller L) : Type 0 where
+      pub last : Caller L
+      pub reads : ReadsInTurn (objects_of k) k last
+      pub keeps : Keeps last n
+      pub lost : IsLost holds last n
+
+    -- why reading all objects stops: the attempt is over, or memory is wanting
+    abbrev pub StopsReading : Caller L → Caller L → Why → Type 0
+    StopsReading k n Again = IsOverReading k n
+    StopsReading k n Retry = ⊥
+    StopsReading k n Foreign = ⊥
+    StopsReading k n Memory = Unit {0}
+
+    -- AN ATTEMPT TO READ ALL OBJECTS WAS DISTURBED: it began, and was over as it read them, or lost as it was to commit
+    pub record WasDisturbed (k n : Caller L) : Type 0 where
+      pub began : Caller L
+      pub begins : Begins holds k began
+      pub ends : IsOverReading began n ⊎ IsLostReading began n
+
+    -- so many of them, one after the other, and nothing else was done
+    abbrev pub WereDisturbed : (attempts : ℕ) → Caller L → Caller L → Type 0
+    WereDisturbed zero k n = n ≡ k
+    WereDisturbed (suc attempts) k n = (m : Caller L) × WereDisturbed attempts k m × WasDisturbed m n
+
+    -- WHY A CALLER COULD NOT READ ALL OBJECTS TOGETHER: it has no attempt left, or no locator; or it has begun so many attempts
+    -- more, and none of them has committed. Each that it has begun was disturbed.
+    pub record CouldNotRead (attempts : ℕ) (old new : Caller L) : Type 0 where
+      pub nothing : AddsNothing old new
+      pub why : IsSpent new ⊎ (begun new ≡ begun old + attempts)
+      pub count : ℕ
+      pub last : Caller L
+      pub disturbed : WereDisturbed count old last
+      pub ends : ((count ≡ attempts) × (new ≡ last)) ⊎ (IsSpent new × (begun new ≡ begun last))
+
     -- a look found a change: under DSTM that something which the attempt had read has changed, or that it is over; under TL2
     -- that a transaction has drawn a number since the attempt began
     pub record WasWoken (old : Caller L) : Type 0 where

@@ -68,4 +68,4 @@ module _ {L : Type 0} (holds : L → List Val → Type 0) where
     pub caller : Caller L
     pub enrols : Enrols holds f g 0 caller
     pub after : Caller L
-    pub unread : CouldNotRead 64 caller after
+    pub unread : CouldNotRead holds 64 caller after

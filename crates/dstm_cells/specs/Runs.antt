@@ -1,5 +1,5 @@
 -- What the threads of a run have done, how it ended, and what it has left.
-use Rattle.std.specs.Prelude.{◌≡◌, ◌⊎◌, ℕ, ◌<◌, List, Result, Ok, Err, length, slice_index_or}
+use Rattle.std.specs.Prelude.{◌≡◌, ◌⊎◌, ℕ, ◌<◌, IfErr, List, Result, Ok, Err, length, map, slice_index_or}
 use denote.Ref.{MutBor}
 use Rattle.std.specs.Fn.{Shared}
 use Rattle.dstm_model.specs.declared.value.Law.{Ghosts}
@@ -19,20 +19,20 @@ use Rattle.dstm_cells.specs.declared.thread.Part.{Part}
 use Rattle.dstm_cells.specs.declared.under_way.Tx.{Tx}
 use Rattle.dstm_cells.specs.Cells.{LeavesUnread, Starts, Takes}
 
--- how a thread ended
-abbrev pub End : Type 0
-End = Result (Unit {0}) GaveUp
+-- how a thread ended, and with which answer
+abbrev pub End : Type 0 → Type 0
+End T = Result T GaveUp
 
 -- THE FIRST THREAD THAT DID NOT END WELL ended so, and those before it ended well
-pub record FirstEnded (ended : ℕ → End → Type 0) (threads : ℕ) (why : GaveUp) : Type 0 where
+pub record FirstEnded {T : Type 0} (ended : ℕ → End T → Type 0) (threads : ℕ) (why : GaveUp) : Type 0 where
   pub number : ℕ
   pub below : number < threads
   pub ends : ended number (Err why)
-  pub before : (earlier : ℕ) → earlier < number → ended earlier (Ok tt)
+  pub before : (earlier : ℕ) → earlier < number → (answer : T) × ended earlier (Ok answer)
 
 -- WHY A RUN FAILED: the end of the first thread that did not end well; or it is the memory's own failure: where it is the
 -- number of threads, there are none, or more than 63, and where the values were not read, that is so
-abbrev pub FailsFor : (ended : ℕ → End → Type 0) (unread : Type 0) (threads : ℕ) → Failed → Type 0
+abbrev pub FailsFor : {T : Type 0} (ended : ℕ → End T → Type 0) (unread : Type 0) (threads : ℕ) → Failed → Type 0
 FailsFor ended unread threads failed.Full = ⊥
 FailsFor ended unread threads failed.Memory = Unit {0}
 FailsFor ended unread threads failed.Threads = (threads ≡ 0) ⊎ (63 < threads)
@@ -41,7 +41,7 @@ FailsFor ended unread threads failed.Unread = unread
 FailsFor ended unread threads failed.Foreign = ⊥
 
 -- what a run leaves: the first, but the second where the failure is the memory's own
-abbrev pub LeavesBy : (ran same : Type 0) → Result (Unit {0}) Failed → Type 0
+abbrev pub LeavesBy : {X : Type 0} (ran same : Type 0) → Result X Failed → Type 0
 LeavesBy ran same (Ok x) = ran
 LeavesBy ran same (Err failed.Full) = same
 LeavesBy ran same (Err failed.Memory) = same
@@ -50,9 +50,33 @@ LeavesBy ran same (Err (failed.GaveUp why)) = ran
 LeavesBy ran same (Err failed.Unread) = same
 LeavesBy ran same (Err failed.Foreign) = same
 
+module _ {T : Type 0} where
+  -- the list tells that the thread of this number has ended so
+  abbrev pub EndsSo : List (End T) → ℕ → End T → Type 0
+  EndsSo ends number end = (other : End T) → slice_index_or ends number other ≡ end
+
+  -- that is how the first one ended that did not end well, by what the list tells
+  pub record IsFirstOf (ends : List (End T)) (failure : Failed) : Type 0 where
+    pub why : GaveUp
+    pub is : failure ≡ failed.GaveUp why
+    pub first : FirstEnded (EndsSo ends) (length ends) why
+
+  -- all have ended well, with these answers
+  abbrev pub HaveAnswered : List (End T) → List T → Type 0
+  HaveAnswered ends answers = ends ≡ map Ok answers
+
+  -- the threads have ended well, each with the answer that stands at its number
+  abbrev pub AnswerEach : (ends : ℕ → End T) (threads : ℕ) → List T → Type 0
+  AnswerEach ends threads answers =
+      (number : ℕ) (other : T) → number < threads → ends number ≡ Ok (slice_index_or answers number other)
+
+  -- what failed is how the first thread ended that did not end well
+  abbrev pub FailsByFirst : {X : Type 0} (ends : ℕ → End T) (threads : ℕ) → Result X Failed → Type 0
+  FailsByFirst ends threads answer = IfErr answer (FailsFor (λ number end. ends number ≡ end) ⊥ threads)
+
 module _ {L : Type 0} where
   -- the seat of this number tells that its thread has ended so
-  abbrev pub SeatEnded : {ghosts : Ghosts L} → List (Seat L ghosts) → ℕ → End → Type 0
+  abbrev pub SeatEnded : {ghosts : Ghosts L} → List (Seat L ghosts) → ℕ → End (Unit {0}) → Type 0
   SeatEnded {ghosts} seats number end = (other : Seat L ghosts) → (slice_index_or seats number other).ended ≡ end
 
   -- that is how the first one ended that did not end well, by what the seats tell
@@ -60,6 +84,11 @@ module _ {L : Type 0} where
     pub why : GaveUp
     pub is : failure ≡ failed.GaveUp why
     pub first : FirstEnded (SeatEnded seats) (length seats) why
+
+  -- each seat has its number
+  abbrev pub AreNumbered : {ghosts : Ghosts L} → List (Seat L ghosts) → Type 0
+  AreNumbered {ghosts} seats =
+      (number : ℕ) (other : Seat L ghosts) → number < length seats → (slice_index_or seats number other).number ≡ number
 
   module _ (holds : L → List Val → Type 0) where
     -- a new caller of the table, with this seed
@@ -100,16 +129,37 @@ module _ {S F R : Type 0} (g : Shared F (MutBor S × (ℕ × Unit {0})) (R × (M
     pub met : g.post f (shown, (number, tt)) (answer, (left, tt))
     pub leaves : left.now ≡ ended
 
-module _ {L F : Type 0} {ghosts : Ghosts L} (holds : L → List Val → Type 0)
-    (g : Shared F (MutBor (Part (Tx L ghosts)) × (ℕ × Unit {0})) (End × (MutBor (Part (Tx L ghosts)) × Unit {0}))) (f : F)
-    (engine : Engine) (rule : L) (values : List Val) where
-  -- THE CLOSURE WAS CALLED with this number and answered this, on a new part of a table that was made of these values and
-  -- works by this engine
-  pub record CalledFor (number : ℕ) (end : End) : Type 0 where
-    pub table : Table L
-    pub starts : Starts rule values table
-    pub works : WorksBy engine table
+  -- whatever it has left
+  abbrev pub WasCalled : (number : ℕ) (began : S) (answer : R) → Type 0
+  WasCalled number began answer = (ended : S) × IsCalled number began answer ended
+
+module _ {L F T : Type 0} {ghosts : Ghosts L} (holds : L → List Val → Type 0)
+    (g : Shared F (MutBor (Part (Tx L ghosts)) × (ℕ × Unit {0})) (End T × (MutBor (Part (Tx L ghosts)) × Unit {0}))) (f : F) where
+  -- the closure was called with this number and answered this, on a new part of this table
+  pub record CalledOn (table : Table L) (number : ℕ) (end : End T) : Type 0 where
     pub began : Part (Tx L ghosts)
     pub new : IsNew holds table number began.tx.attempts.caller
     pub ended : Part (Tx L ghosts)
     pub call : IsCalled g f number began end ended
+
+  module _ (engine : Engine) (rule : L) (values : List Val) where
+    -- THE CLOSURE WAS CALLED with this number and answered this, on a new part of a table that was made of these values and
+    -- works by this engine
+    pub record CalledFor (number : ℕ) (end : End T) : Type 0 where
+      pub table : Table L
+      pub starts : Starts rule values table
+      pub works : WorksBy engine table
+      pub on : CalledOn table number end
+
+    -- A RUN ON ONE TABLE, which was made of these values and works by this engine: the closure was called with each number on a
+    -- new part of it, what is told of these calls' ends is so, and the values after it are those that the objects of this table
+    -- had together at the place of a last transaction
+    pub record RanOn (threads : ℕ) (after : List Val) (told : (ℕ → End T) → Type 0) : Type 0 where
+      pub table : Table L
+      pub starts : Starts rule values table
+      pub works : WorksBy engine table
+      pub ends : ℕ → End T
+      pub called : (number : ℕ) → number < threads → CalledOn table number (ends number)
+      pub tells : told ends
+      pub left : Founder L
+      pub takes : Takes holds (founded table) left after

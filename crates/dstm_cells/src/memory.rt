@@ -1,8 +1,8 @@
 // Cells, and threads that change them.
-ghost use Rattle.std.specs.Prelude.{◌≡◌, ◌⊎◌, ◌↔◌, ◌+◌, ◌<◌, ◌≤◌, ℕ, [], length, All, Ok, Err, IfErr, IfOk, OnOk};
+ghost use Rattle.std.specs.Prelude.{◌≡◌, ◌⊎◌, ◌↔◌, ◌+◌, ◌<◌, ◌≤◌, ℕ, [], length, slice_index_or, vec_capacity, All, Ok, Err, IfErr, IfOk, OnOk};
 ghost use Rattle.dstm_cells.specs.Attempts.{CouldNotRead};
 ghost use Rattle.dstm_cells.specs.Cells.{Adds, AddsAll, AreNamed, Founds, IsFor, LeavesUnread, ReadsAll, Takes};
-ghost use Rattle.dstm_cells.specs.Runs.{CalledFor, FailsFor, HaveNew, IsCalled, IsFirst, LeavesBy, Ran, WasUnread};
+ghost use Rattle.dstm_cells.specs.Runs.{AnswerEach, AreNumbered, CalledFor, FailsByFirst, FailsFor, HaveAnswered, HaveNew, IsCalled, IsFirst, IsFirstOf, LeavesBy, Ran, RanOn, WasCalled, WasUnread};
 ghost use Rattle.dstm_cells.specs.declared.error.Failed.TheVariants as failed;
 ghost use Rattle.dstm_model.specs.Map.{state_after, value_at};
 ghost use Rattle.dstm_tables.specs.Callers.{home_of};
@@ -20,7 +20,7 @@ use dstm_model::{AnyLaw, Law, Val};
 use dstm_tables::{Engine, EnrolError, Founder, MOST_OBJECTS, Manager, Table, make};
 use std::alloc::{AllocError, Global};
 use std::marker::PhantomData;
-use std::thread::{Threads, for_each_mut};
+use std::thread::{Threads, for_each_mut, map_vec};
 
 /// The most cells of a memory.
 pub const MOST_CELLS: u32 = MOST_OBJECTS;
@@ -38,10 +38,11 @@ pub struct Memory<L: Law = AnyLaw> {
     ghost few: { length values.items ≤ 524288 },
 }
 
-// A thread's part in a run, and how it ended.
+// A thread's part in a run, its number, and how it ended.
 #[derive(Drop)]
 struct Seat<'a, L: Law> {
     me: Me<'a, L>,
+    number: usize,
     ended: Result<(), GaveUp>,
 }
 
@@ -201,7 +202,7 @@ impl<L: Law + Copy> Memory<L> {
         ensures size { length self.new.values.items ≡ length self.old.values.items }
         ensures reads { OnOk result (ReadsAll L.holds last.old.tx.attempts.caller self.new.values.items) }
         ensures fails { IfErr result (λ why. (self.new ≡ self.old) × ((why ≡ failed.Memory) ⊎ (why ≡ failed.Unread))) }
-        ensures unread { result ≡ Err failed.Unread → CouldNotRead 64 last.old.tx.attempts.caller last.new.tx.attempts.caller }
+        ensures unread { result ≡ Err failed.Unread → CouldNotRead L.holds 64 last.old.tx.attempts.caller last.new.tx.attempts.caller }
     {
         self.values = last.tx.values(self.alloc, self.values.len() as u32)?;
         Ok(())
@@ -247,12 +248,14 @@ impl<L: Law + Copy> Memory<L> {
         requires room { made_of founder.old + count ≤ callers_there table.now }
         ensures count { IfOk result (λ seats. length seats.items ≡ count) }
         ensures new { IfOk result (λ seats. HaveNew L.holds table.now seats.items) }
+        ensures numbered { IfOk result (λ seats. AreNumbered seats.items) }
         ensures fails { IfErr result (λ why. why ≡ failed.Memory) }
     {
         let mut seats = Vec::with_capacity(self.alloc, count as usize)?;
         for seed in 0..count {
             seats.push(Seat {
                 me: self.part(table, founder, u64::from(seed))?,
+                number: seed as usize,
                 ended: Ok(()),
             })?;
         }
@@ -313,11 +316,12 @@ impl Memory {
         ensures fails { IfErr result (FailsFor
             (CalledFor ⟦<AnyLaw as Law>⟧.holds F.Fn f self.old.engine self.old.law self.old.values.items)
             (WasUnread ⟦<AnyLaw as Law>⟧.holds self.old.engine self.old.law self.old.values.items) threads) }
-        ensures left { LeavesBy (Ran ⟦<AnyLaw as Law>⟧.holds self.old.engine self.old.law self.old.values.items self.new.values.items)
-            (self.new ≡ self.old) result }
+        ensures left { LeavesBy (RanOn ⟦<AnyLaw as Law>⟧.holds F.Fn f self.old.engine self.old.law self.old.values.items threads
+            self.new.values.items (λ ends. OnOk result ((number : ℕ) → number < threads → ends number ≡ Ok tt)
+            × FailsByFirst ends threads result)) (self.new ≡ self.old) result }
     {
         let (table, mut founder) = self.found(threads)?;
-        let mut last = self.part(&table, &mut founder, 0)?;
+        let mut reader = self.part(&table, &mut founder, 0)?;
         let mut seats = self.seats(&table, &mut founder, threads)?;
         for_each_mut(
             rt,
@@ -328,8 +332,50 @@ impl Memory {
                 ensures { IsCalled F.Fn f number seat.entry.now.me seat.exit.now.ended seat.exit.now.me }
             { work(&f, seat, number) },
         );
-        self.take_by(&mut last)?;
+        self.take_by(&mut reader)?;
         how_all_ended(&seats)
+    }
+
+    /// As `run`, and hands back what the closure has answered with each number, in their order. Where there is no memory for
+    /// the answers, the cells are as before.
+    pub fn run_each<R: Threads + Sync, T: Send + Drop, F>(
+        &mut self,
+        rt: &R,
+        threads: u32,
+        f: F,
+    ) -> Result<Vec<T>, Failed>
+    where
+        F: Fn(&mut Me<'_>, usize) -> Result<T, GaveUp> + Sync,
+        requires callable { F.IsAlwaysCallable f }
+        ensures engine { self.new.engine ≡ self.old.engine }
+        ensures size { length self.new.values.items ≡ length self.old.values.items }
+        ensures threads { OnOk result ((1 ≤ threads) × (threads ≤ 63)) }
+        ensures refused { (threads ≡ 0) ⊎ (63 < threads) → (result ≡ Err failed.Threads) × (self.new ≡ self.old) }
+        ensures count { IfOk result (λ answers. length answers.items ≡ threads) }
+        ensures called { IfOk result (λ answers. (number : ℕ) (other : T) → number < threads
+            → CalledFor ⟦<AnyLaw as Law>⟧.holds F.Fn f self.old.engine self.old.law self.old.values.items number
+            (Ok (slice_index_or answers.items number other))) }
+        ensures fails { IfErr result (FailsFor
+            (CalledFor ⟦<AnyLaw as Law>⟧.holds F.Fn f self.old.engine self.old.law self.old.values.items)
+            (WasUnread ⟦<AnyLaw as Law>⟧.holds self.old.engine self.old.law self.old.values.items) threads) }
+        ensures left { LeavesBy (RanOn ⟦<AnyLaw as Law>⟧.holds F.Fn f self.old.engine self.old.law self.old.values.items threads
+            self.new.values.items (λ ends. IfOk result (λ answers. AnswerEach ends threads answers.items)
+            × FailsByFirst ends threads result)) (self.new ≡ self.old) result }
+    {
+        let (table, mut founder) = self.found(threads)?;
+        let mut reader = self.part(&table, &mut founder, 0)?;
+        let answers = Vec::with_capacity(self.alloc, threads as usize)?;
+        let seats = self.seats(&table, &mut founder, threads)?;
+        let ends = map_vec(
+            rt,
+            seats,
+            &|seat: Seat<'_, AnyLaw>|
+                requires { F.IsAlwaysCallable f }
+                ensures { WasCalled F.Fn f seat.entry.number seat.entry.me result }
+            { answer(&f, seat) },
+        )?;
+        self.take_by(&mut reader)?;
+        all_answers(answers, ends)
     }
 }
 
@@ -370,4 +416,33 @@ where
     ensures { IsCalled F.Fn f.now number seat.old.me seat.new.ended seat.new.me }
 {
     seat.ended = f(&mut seat.me, number);
+}
+
+// Calls the closure on a seat, and hands back what it has answered.
+fn answer<T, F>(f: &F, seat: Seat<'_, AnyLaw>) -> Result<T, GaveUp>
+where
+    F: Fn(&mut Me<'_>, usize) -> Result<T, GaveUp>,
+    requires callable { F.IsAlwaysCallable f.now }
+    ensures { WasCalled F.Fn f.now seat.entry.number seat.entry.me result }
+{
+    let Seat { me, number, .. } = seat;
+    let mut me = me;
+    f(&mut me, number)
+}
+
+// What all threads have answered, or how the first one ended that did not end well.
+fn all_answers<T: Drop>(answers: Vec<T>, ends: Vec<Result<T, GaveUp>>) -> Result<Vec<T>, Failed>
+    requires none { answers.items ≡ [] }
+    requires room { length ends.items ≤ vec_capacity answers }
+    ensures well { IfOk result (λ answers. HaveAnswered ends.items answers.items) }
+    ensures first { IfErr result (IsFirstOf ends.items) }
+{
+    let mut answers = answers;
+    for end in ends {
+        match end {
+            Ok(answer) => answers.push_reserved(answer),
+            Err(why) => return Err(Failed::GaveUp(why)),
+        }
+    }
+    Ok(answers)
 }

@@ -3,7 +3,7 @@ ghost use Rattle.std.specs.Prelude.{◌++◌, ◌⊎◌, ◌≡◌, List, [], �
 ghost use Rattle.dstm_tables.specs.Callers.{home_of, law_of};
 ghost use Rattle.dstm_attempts.specs.Attempts.{Exchanges, Finds, IsClosed, IsUntouched, Keeps, MayBegin, Opens, StoodTogether, objects_of};
 ghost use Rattle.dstm_cells.specs.Alternatives.{Notes, NotesOnce, OrElse, noting, settings};
-ghost use Rattle.dstm_cells.specs.Attempts.{CouldNotRead, Follows, FollowsLooks, FollowsRetry, StaysFor, StaysLooking, StaysWaiting};
+ghost use Rattle.dstm_cells.specs.Attempts.{CouldNotRead, Follows, FollowsLooks, FollowsRetry, ReadsInTurn, StaysFor, StaysLooking, StaysWaiting, StopsReading};
 ghost use Rattle.dstm_cells.specs.Cells.{ReadsAll};
 ghost use Rattle.dstm_cells.specs.Closures.{KeepsOnce};
 ghost use Rattle.dstm_cells.specs.UnderWay.{Changes, Gets, Refuses, StopsChange, StopsLook, stop_by};
@@ -223,7 +223,7 @@ impl<'a, L: Law> Tx<'a, L> {
         ensures lawful { IfOk result (λ values. L.holds (law_of self.old.attempts.caller) values.items) }
         ensures reads { IfOk result (λ values. ReadsAll L.holds self.old.attempts.caller values.items) }
         ensures fails { IfErr result (λ why. (why ≡ failed.Memory) ⊎ (why ≡ failed.Unread)) }
-        ensures unread { result ≡ Err failed.Unread → CouldNotRead 64 self.old.attempts.caller self.new.attempts.caller }
+        ensures unread { result ≡ Err failed.Unread → CouldNotRead L.holds 64 self.old.attempts.caller self.new.attempts.caller }
     {
         for _reading in 0..READINGS {
             let Ok(()) = self.begin() else {
@@ -252,6 +252,9 @@ impl<'a, L: Law> Tx<'a, L> {
         ensures reads { IfOk result (λ values. (map : List Val) → MayBegin L.holds self.new.attempts.caller map → map ≡ values.items) }
         ensures untouched { OnOk result (IsUntouched self.new.attempts.caller) }
         ensures keeps { Keeps self.old.attempts.caller self.new.attempts.caller }
+        ensures in_turn { OnOk result
+            (ReadsInTurn L.holds (objects_of self.old.attempts.caller) self.old.attempts.caller self.new.attempts.caller) }
+        ensures stops { IfErr result (λ stop. StopsReading L.holds self.old.attempts.caller self.new.attempts.caller stop.why) }
     {
         let mut values = Vec::with_capacity(alloc, objects as usize)?;
         for object in 0..objects {

@@ -5,7 +5,7 @@ use Rattle.std.proofs.Crossing.{crosses}
 use Rattle.dstm_cells.specs.Runs.{FailsFor}
 use Rattle.dstm_cells.specs.declared.memory.Seat.{Seat}
 use Rattle.dstm_cells.proofs.Calling.{is_err}
-use Rattle.dstm_cells.proofs.Running.{has_left, lent_back, ran_leaves, told, untaken, was_unread}
+use Rattle.dstm_cells.proofs.Running.{has_left, lent_back, ran_leaves, told, untaken, untaken_leaves, was_unread}
 use Rattle.dstm_cells.proofs.Sends.{seat_send}
 use Rattle.dstm_cells.proofs.memory.Memory.run_work.Given.{Over}
 use Rattle.dstm_cells.proofs.memory.Memory.run_work.Goals.{After-how_all_ended}
@@ -33,7 +33,7 @@ tells : (g : Over) (c : After-how_all_ended g) (unread : Type 0) →
     OnOk c.how_all_ended.result ((number : ℕ) → number < c.args.threads → g.W.Work.ends c.args.work.now number (Ok tt))
     × IfErr c.how_all_ended.result (FailsFor (g.W.Work.ends c.args.work.now) unread c.args.threads)
 tells g c unread =
-    let other : Seat _ _ = record { me = c.in_ok-last.last; ended = Ok tt } in
+    let other : Seat _ _ = record { me = c.in_ok-last.last; number = 0; ended = Ok tt } in
     told c.deref.result.now c.for_each_mut.new.s c.args.threads (seats_left g c) (g.W.Work.ends c.args.work.now) other (ended g c other)
     unread c.how_all_ended.result c.how_all_ended.ensures.well c.how_all_ended.ensures.first
 
@@ -48,6 +48,11 @@ returns-clause-left g c =
     ran_leaves c.deref.result.now _ _ c.how_all_ended.result c.how_all_ended.ensures.first
     (has_left g.L.Law.holds c.part.new.founder c.in_ok-last.last.tx.attempts.caller c.in_ok-table.ensures.founds c.in_ok-table.ensures.engine
     c.in_ok-last.ensures.enrols c.in_ok-take_by.ensures.reads)
+
+pub returns-in_err-take_by-clause-left : goal.returns-in_err-take_by-clause-left
+returns-in_err-take_by-clause-left g c =
+    untaken_leaves _ _ c.from_residual-in_err-take_by.result c.in_err-take_by.field-0.0 c.from_residual-in_err-take_by.ensures.1
+    c.in_err-take_by.ensures.fails.1 c.in_err-take_by.ensures.fails.0
 
 pub returns-in_err-take_by-clause-fails : goal.returns-in_err-take_by-clause-fails
 returns-in_err-take_by-clause-fails g c =

@@ -3,7 +3,7 @@ use Rattle.dstm_tables.specs.Founders.{made_of}
 use Rattle.dstm_tables.specs.Tables.{callers_there}
 use Rattle.dstm_cells.specs.declared.error.Failed.TheVariants as failed
 use Rattle.dstm_cells.specs.declared.memory.Seat.{Seat}
-use Rattle.dstm_cells.specs.Runs.{HaveNew, IsNew}
+use Rattle.dstm_cells.specs.Runs.{AreNumbered, HaveNew, IsNew}
 use Rattle.dstm_cells.proofs.Calling.{is_err}
 use Rattle.dstm_cells.proofs.Running.{each_push, one_made}
 use Rattle.dstm_cells.proofs.memory.Memory.seats.Goals as goal
@@ -27,12 +27,15 @@ loop-seed-preserved g c =
     let one_more = one_made g.L.Law.holds c.loop-seed.founder c.part.new.founder _ c.in_ok-part.field-0.tx.attempts.caller part.enrols in
     let new : IsNew g.L.Law.holds table c.from.result c.in_ok-part.field-0.tx.attempts.caller =
     record { home = part.home; enrols = (c.loop-seed.founder, c.part.new.founder, part.enrols) } in
+    let seat : Seat _ _ = record { me = c.in_ok-part.field-0; number = c.loop-seed.seed; ended = Ok tt } in
     record {
       table = search rules;
       made = omega (arith, one_more, before.made);
       count = search rules;
       new = subst (HaveNew g.L.Law.holds table) (sym c.in_ok-push.ensures.items)
           (each_push (λ n (seat : Seat _ _). IsNew g.L.Law.holds table n seat.me.tx.attempts.caller) c.loop-seed.seats.items
-          (record { me = c.in_ok-part.field-0; ended = Ok tt }) before.new
+          seat before.new
           (subst (λ n. IsNew g.L.Law.holds table n c.in_ok-part.field-0.tx.attempts.caller) (c.from.ensures ∙ sym before.count) new));
+      numbered = subst AreNumbered (sym c.in_ok-push.ensures.items)
+          (each_push (λ n (seat : Seat _ _). seat.number ≡ n) c.loop-seed.seats.items seat before.numbered (sym before.count));
     }
