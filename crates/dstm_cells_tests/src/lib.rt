@@ -6,3 +6,5 @@
 mod cells;
 #[cfg(test)]
 mod queues;
+#[cfg(test)]
+mod runs;
