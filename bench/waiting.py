@@ -30,12 +30,16 @@ def main():
     reader.add_argument("--engines", default=ENGINES)
     reader.add_argument("--runs", type=int, default=100)
     reader.add_argument("--rounds", type=int, default=5000, help="numbers of a producer, meals of a philosopher")
+    reader.add_argument("--seconds", type=float, default=float("inf"), help="begin no round after so many")
     given = reader.parse_args()
     print(f"load average {os.getloadavg()[0]:.1f}, {os.cpu_count()} processors, {given.rounds} rounds")
     print("| program | by | runs | Ok | other ends | median, ms | most, ms |\n|---|---|---|---|---|---|---|")
     pairs = [(name, engine) for name in given.programs.split(",") for engine in given.engines.split(",")]
     ends, times = {pair: Counter() for pair in pairs}, {pair: [] for pair in pairs}
+    begun = time.monotonic()
     for _ in range(given.runs):
+        if time.monotonic() - begun > given.seconds:
+            break
         for name, engine in pairs:
             end, took = run([given.program, name, engine, str(given.rounds)], WANTED[name](given.rounds))
             ends[name, engine][end] += 1
@@ -44,7 +48,7 @@ def main():
         told = ends[name, engine]
         others = ", ".join(f"{count} {end}" for end, count in told.items() if end != "Ok") or "-"
         took = times[name, engine]
-        print(f"| {name} | {engine} | {given.runs} | {told['Ok']} | {others} | {median(took):.0f} | {max(took):.0f} |")
+        print(f"| {name} | {engine} | {len(took)} | {told['Ok']} | {others} | {median(took):.0f} | {max(took):.0f} |")
 
 
 if __name__ == "__main__":
