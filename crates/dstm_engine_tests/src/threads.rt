@@ -3,44 +3,33 @@ ghost use Rattle.std.specs.Prelude.{◌≡◌, length};
 ghost use Rattle.dstm_core.specs.Words.{IsValid};
 
 use crate::attempts::low;
-use crate::moves::{Move, TwoObjects};
+use crate::moves::{ATTEMPTS, MOVES, Move, Mover, TwoObjects, move_both};
 use dstm_core::{Manager, Shape};
 use dstm_engine::{Caller, Ended, Stm, attempt};
 use dstm_model::Val;
 use std::alloc::Global;
 use std::test::Fail;
-use std::thread::{Threads, join};
+use std::thread::Threads;
 
-// How many moves each thread makes at most.
-const MOVES: u32 = 10_000;
+impl Mover<Stm<TwoObjects>> for Caller<TwoObjects> {
+    ghost use Rattle.dstm_words.specs.Seats.{Home};
+    ghost use Rattle.dstm_engine_tests.specs.declared.moves.TwoObjects.{TwoObjects};
 
-// The attempts that it has for them.
-const ATTEMPTS: u32 = 65_536;
+    ghost Place = { Home TwoObjects };
 
-// Makes the moves, up to so many, while attempts are left, and counts them.
-fn move_all(
-    stm: &Stm<TwoObjects>,
-    caller: Caller<TwoObjects>,
-    law: TwoObjects,
-) -> (Caller<TwoObjects>, u32)
-    requires table { caller.home ≡ stm.now }
-    requires law { stm.now.terms.law.value ≡ law }
-    ensures table { result.0.home ≡ stm.entry.now }
-{
-    let mut caller = caller;
-    let mut body = Move { law };
-    let mut done = 0;
-    for _ in 0..ATTEMPTS {
-        if done == MOVES {
-            break;
-        }
-        match attempt(&mut caller, stm, &mut body) {
-            Ok(_) => done += 1,
-            Err(Ended::Again(_)) => {}
-            Err(Ended::Spent) => break,
+    ghost home = { λ caller. caller.home };
+
+    ghost place = { λ stm. stm };
+
+    ghost law = { λ home. home.terms.law.value };
+
+    fn try_move(&mut self, stm: &Stm<TwoObjects>, body: &mut Move) -> Option<bool> {
+        match attempt(self, stm, body) {
+            Ok(_) => Some(true),
+            Err(Ended::Again(_)) => Some(false),
+            Err(Ended::Spent) => None,
         }
     }
-    (caller, done)
 }
 
 // Both threads make their moves: how many each made, and what the objects are left with.
@@ -61,18 +50,7 @@ fn move_by_two<R: Threads + Sync>(
     let Ok(west) = founder.caller(alloc, &stm, 2) else {
         return Err(Fail::new("no caller"));
     };
-    let table = &stm;
-    let (east, west) = join(
-        rt,
-        move || -> (Caller<TwoObjects>, u32)
-            requires { (east.home ≡ table.now) × (table.now.terms.law.value ≡ law) }
-            ensures { result.0.home ≡ table.entry.now }
-        { move_all(table, east, law) },
-        move || -> (Caller<TwoObjects>, u32)
-            requires { (west.home ≡ table.now) × (table.now.terms.law.value ≡ law) }
-            ensures { result.0.home ≡ table.entry.now }
-        { move_all(table, west, law) },
-    );
+    let (east, west) = move_both(rt, &stm, east, west, law);
     founder.retire(&stm, east.0);
     founder.retire(&stm, west.0);
     let (values, _record) = stm.close(alloc, founder)?;
