@@ -1,5 +1,5 @@
 // Cells by their numbers.
-ghost use Rattle.std.specs.Prelude.{◌≡◌, ◌+◌, ◌<◌, ◌≤◌};
+ghost use Rattle.std.specs.Prelude.{◌≡◌, ◌+◌, ◌*◌, ◌<◌, ◌≤◌};
 ghost use Rattle.dstm_structures.specs.Circles.{next};
 
 use dstm_cells::{Cell, Word};
@@ -12,6 +12,17 @@ pub struct Ring {
     pub(crate) first: u32,
     pub(crate) capacity: u32,
     ghost few: { first + 1 + capacity ≤ 524288 },
+}
+
+// The cells of a map: the number of the first one, and how many places there are. For each place there is a cell that tells
+// at how many places from it on keys are looked for whose home it is, then one for each that tells its key, and then one for
+// each that holds the value.
+#[derive(Clone, Copy)]
+pub struct Rows {
+    pub(crate) first: u32,
+    pub(crate) capacity: u32,
+    ghost some: { 0 < capacity },
+    ghost few: { first + 3 * capacity ≤ 524288 },
 }
 
 // The cell of this number.

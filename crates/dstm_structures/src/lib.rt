@@ -1,8 +1,10 @@
-//! Structures that transactions change together with cells: a queue in the cells of a memory. Whoever uses it states no law
-//! and proves nothing.
+//! Structures that transactions change together with cells: a queue and a map in the cells of a memory. Whoever uses them
+//! states no law and proves nothing.
 #![tactic(auto)]
 
 mod cells;
+mod map;
 mod queue;
 
+pub use map::{HashMap, Placed};
 pub use queue::Queue;

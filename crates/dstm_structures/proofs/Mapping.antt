@@ -1,0 +1,536 @@
+-- What the calls on a map do, by what they read and write.
+use Rattle.std.proofs.Common.{◌≡◌, ◌∙◌, ◌++◌, ◌==◌, ℕ, suc, ◌+◌, ◌*◌, ◌-◌, ◌<◌, ◌≤◌, Bool, true, false, List, ap, arith, cond, length, length-set, get_or-set_same, get_or-set_other, refl, sym, subst, slice_set, ◌⊎◌, inl, inr, nat_lt}
+use Rattle.std.specs.Prelude.{Option, None, Some, is_some, replicate}
+use Rattle.std.proofs.lemmas.Bool.{cases_eq}
+use Rattle.std.proofs.lemmas.List.{get_or-append-add, get_or-replicate, length-replicate}
+use Rattle.dstm_model.specs.declared.value.Val.{Val}
+use Rattle.dstm_model.specs.Map.{no_value, value_at}
+use Rattle.dstm_structures.specs.Circles.{behind}
+use Rattle.dstm_structures.specs.Places.{AreTaken, find, is_free, is_key}
+use Rattle.dstm_structures.specs.Maps.{Adds, Clears, ClearsAll, Empties, Extends, FreeAt, Inserts, Makes, NoneFree, Puts, Reaches, Seeks, Stores, Tells, TellsIf, at_place, end_of, home_in, homes, item_of, key_at, key_of, keys_in, place_in, reach_at, reach_of, values_in}
+use Rattle.dstm_structures.specs.declared.map.HashMap.{HashMap}
+use Rattle.dstm_structures.specs.declared.map.Placed.{Placed}
+use Rattle.dstm_structures.specs.declared.map.Placed.TheVariants.{New, Instead, Full}
+use Rattle.dstm_structures.proofs.Doing.{Reads, Writes}
+use Rattle.dstm_structures.proofs.Maps.{added-here, added-other, home-within, item-same, place-kept, removed-here, replaced-here, replaced-other}
+use Rattle.dstm_structures.proofs.Places.{behind-below, distance, is_key-apart, key_is}
+
+module _ {V : Type 0} (map : HashMap V) where
+  abbrev n : ℕ
+  n = map.cells.capacity
+
+  abbrev first : ℕ
+  first = map.cells.first
+
+  -- ---- at how many places keys are looked for
+
+  pub reach-few : (h o told reach : ℕ) (before after : List Val) → o ≡ first + h → told < n → reach ≡ told →
+      Reads reach_of o told before after → Reaches map h reach before after
+  reach-few h o told reach before after at few same reads =
+      let is : told ≡ reach_of (value_at before (first + h)) =
+      reads.is ∙ ap (λ (x : ℕ). reach_of (value_at before x)) at in
+      record { is = same ∙ grind (arith, is, few); same = reads.same }
+
+  pub reach-all : (h o told : ℕ) (before after : List Val) → o ≡ first + h → n ≤ told →
+      Reads reach_of o told before after → Reaches map h n before after
+  reach-all h o told before after at many reads =
+      let is : told ≡ reach_of (value_at before (first + h)) =
+      reads.is ∙ ap (λ (x : ℕ). reach_of (value_at before x)) at in
+      record { is = grind (arith, is, many); same = reads.same }
+
+  -- a place's key was read
+  key_read : (at o : ℕ) (held : Option ℕ) (before mid after : List Val) → o ≡ first + n + at → mid ≡ before →
+      Reads key_of o held mid after → held ≡ key_at map before at
+  key_read at o held before mid after o_is same reads =
+      reads.is ∙ ap (λ (x : ℕ). key_of (value_at mid x)) o_is
+      ∙ ap (λ (xs : List Val). key_of (value_at xs (first + n + at))) same
+
+  -- ---- the search for a key
+
+  -- so many of the places at which a key is looked for do not hold it
+  pub record Seeking (key reach passed : ℕ) (before after : List Val) : Type 0 where
+    pub is : place_in first n before key ≡ find n (key_at map before) key (homes map key) passed (reach - passed)
+    pub same : after ≡ before
+
+  pub seek-start : (key h reach : ℕ) (before after : List Val) → h ≡ homes map key → Reaches map h reach before after →
+      Seeking key reach 0 before after
+  seek-start key h reach before after home r = record {
+    is = ap (find n (key_at map before) key (homes map key) 0)
+        (ap (reach_at map before) (sym home) ∙ sym r.is ∙ omega arith);
+    same = r.same;
+  }
+
+  pub seek-none : (key reach passed : ℕ) (before after : List Val) → reach ≤ passed → Seeking key reach passed before after →
+      Seeks map key None before after
+  seek-none key reach passed before after end s =
+      let none : reach - passed ≡ 0 = omega (arith, end) in
+      record {
+        is = s.is ∙ ap (find n (key_at map before) key (homes map key) passed) none;
+        same = s.same;
+      }
+
+  module _ (key reach passed h at o : ℕ) (held : Option ℕ) (before mid after : List Val) (more : passed < reach)
+      (home : h ≡ homes map key) (at_is : at ≡ behind n h passed) (o_is : o ≡ first + n + at)
+      (s : Seeking key reach passed before mid) (reads : Reads key_of o held mid after) where
+    step : find n (key_at map before) key (homes map key) passed (reach - passed)
+        ≡ cond (is_key key held) (Some at) (find n (key_at map before) key (homes map key) (passed + 1) (reach - (passed + 1)))
+    step =
+        let left : reach - passed ≡ suc (reach - (passed + 1)) = omega (arith, more) in
+        let at_home : at ≡ behind n (homes map key) passed = at_is ∙ ap (λ (x : ℕ). behind n x passed) home in
+        ap (find n (key_at map before) key (homes map key) passed) left
+        ∙ ap (λ (x : ℕ). cond (is_key key (key_at map before x)) (Some x)
+        (find n (key_at map before) key (homes map key) (passed + 1) (reach - (passed + 1)))) (sym at_home)
+        ∙ ap (λ (x : Option ℕ). cond (is_key key x) (Some at)
+        (find n (key_at map before) key (homes map key) (passed + 1) (reach - (passed + 1))))
+        (sym (key_read at o held before mid after o_is s.same reads))
+
+    pub seek-found : is_key key held ≡ true → Seeks map key (Some at) before after
+    seek-found it = record {
+      is = s.is ∙ step
+          ∙ ap (λ b. cond b (Some at) (find n (key_at map before) key (homes map key) (passed + 1) (reach - (passed + 1)))) it;
+      same = reads.same ∙ s.same;
+    }
+
+    pub seek-next : is_key key held ≡ false → Seeking key reach (passed + 1) before after
+    seek-next other = record {
+      is = s.is ∙ step
+          ∙ ap (λ b. cond b (Some at) (find n (key_at map before) key (homes map key) (passed + 1) (reach - (passed + 1)))) other;
+      same = reads.same ∙ s.same;
+    }
+
+  -- ---- the search for a free place
+
+  -- so many places from a home on are not free
+  pub record Passing (h reach passed : ℕ) (before after : List Val) : Type 0 where
+    pub is : reach ≡ reach_at map before h
+    pub taken : AreTaken n (homes map) (key_at map before) h (reach_at map before h) passed
+    pub same : after ≡ before
+
+  pub pass-start : (h reach : ℕ) (before after : List Val) → Reaches map h reach before after →
+      Passing h reach 0 before after
+  pass-start h reach before after r = record {
+    is = r.is;
+    taken = λ j below. absurd (omega (arith, below));
+    same = r.same;
+  }
+
+  pub pass-none : (h reach passed : ℕ) (before after : List Val) → n ≤ passed → Passing h reach passed before after →
+      NoneFree map h before after
+  pass-none h reach passed before after end p = record {
+    taken = λ j below. p.taken j (omega (arith, below, end));
+    same = p.same;
+  }
+
+  module _ (h reach passed at o : ℕ) (held : Option ℕ) (beyond : Bool) (before mid after : List Val)
+      (at_is : at ≡ behind n h passed) (o_is : o ≡ first + n + at)
+      (beyond_is : beyond ≡ cond (nat_lt passed reach) false true) (p : Passing h reach passed before mid)
+      (reads : Reads key_of o held mid after) where
+    looked : is_free (homes map) h (cond (nat_lt passed (reach_at map before h)) false true)
+        (key_at map before (behind n h passed)) ≡ is_free (homes map) h beyond held
+    looked =
+        ap (λ (r : ℕ). is_free (homes map) h (cond (nat_lt passed r) false true) (key_at map before (behind n h passed)))
+        (sym p.is)
+        ∙ ap (λ b. is_free (homes map) h b (key_at map before (behind n h passed))) (sym beyond_is)
+        ∙ ap (is_free (homes map) h beyond)
+        (sym (key_read at o held before mid after o_is p.same reads ∙ ap (key_at map before) at_is))
+
+    pub pass-found : is_free (homes map) h beyond held ≡ true → FreeAt map h passed before after
+    pass-found it = record { free = looked ∙ it; taken = p.taken; same = reads.same ∙ p.same }
+
+    pub pass-next : is_free (homes map) h beyond held ≡ false → Passing h reach (passed + 1) before after
+    pass-next other = record {
+      is = p.is;
+      taken = λ j below. each j below (cases_eq j passed);
+      same = reads.same ∙ p.same;
+    }
+      where
+        each : (j : ℕ) → j < passed + 1 → (j ≡ passed) ⊎ (j ≡ passed → ⊥) →
+            is_free (homes map) h (cond (nat_lt j (reach_at map before h)) false true) (key_at map before (behind n h j))
+            ≡ false
+        each j below (inl last) =
+            ap (λ (x : ℕ). is_free (homes map) h (cond (nat_lt x (reach_at map before h)) false true)
+            (key_at map before (behind n h x))) last ∙ looked ∙ other
+        each j below (inr apart) = p.taken j (omega (arith, below, apart))
+
+  -- ---- what is set for a key that is added
+
+  pub extend-none : (h reach far : ℕ) (before after : List Val) → far ≤ reach → Reaches map h reach before after →
+      Extends map h far before after
+  extend-none h reach far before after enough r = record {
+    is = ap (λ (xs : List Val). reach_at map xs h) r.same ∙ stays (reach_at map before h) (omega (arith, r.is, enough));
+    others = λ o apart. ap (λ (xs : List Val). value_at xs o) r.same;
+  }
+    where
+      stays : (a : ℕ) → far ≤ a → a ≡ cond (nat_lt a far) far a
+      stays a le = grind (arith, le)
+
+  pub extend-more : (h reach far o was told : ℕ) (before mid after : List Val) → end_of map ≤ length before → h < n → far ≤ n →
+      o ≡ first + h → told ≡ far → reach < far → Reaches map h reach before mid → Writes reach_of o was told mid after →
+      Extends map h far before after
+  extend-more h reach far o was told before mid after size home most o_is told_is less r writes =
+      let whole : after ≡ slice_set before (first + h) writes.kept =
+      writes.after_is ∙ ap (λ (xs : List Val). slice_set xs o writes.kept) r.same
+      ∙ ap (λ (x : ℕ). slice_set before x writes.kept) o_is in
+      let top : reach_of (value_at after (first + h)) ≡ far =
+      ap (λ (xs : List Val). reach_of (value_at xs (first + h))) whole
+      ∙ ap reach_of (get_or-set_same before (first + h) writes.kept no_value (omega (arith, size, home))) ∙ writes.is ∙ told_is in
+      record {
+        is = ap (λ (x : ℕ). cond (nat_lt x n) x n) top ∙ all far most
+            ∙ grows (reach_at map before h) (omega (arith, r.is, less));
+        others = λ x apart. ap (λ (xs : List Val). value_at xs x) whole
+            ∙ get_or-set_other before (first + h) x writes.kept no_value apart;
+      }
+    where
+      all : (a : ℕ) → a ≤ n → cond (nat_lt a n) a n ≡ a
+      all a le = grind (arith, le)
+
+      grows : (a : ℕ) → a < far → far ≡ cond (nat_lt a far) far a
+      grows a lt = grind (arith, lt)
+
+  -- ---- a key is taken out of its places
+
+  pub record Clearing (key reach passed : ℕ) (before after : List Val) : Type 0 where
+    pub is : reach ≡ reach_at map before (homes map key)
+    pub clears : Clears map key passed before after
+
+  pub clear-start : (key h reach : ℕ) (before after : List Val) → h ≡ homes map key → Reaches map h reach before after →
+      Clearing key reach 0 before after
+  clear-start key h reach before after home r = record {
+    is = r.is ∙ ap (reach_at map before) home;
+    clears = record {
+      gone = λ j below. absurd (omega (arith, below));
+      keys = λ k at apart. ap (λ (xs : List Val). is_key k (key_at map xs at)) r.same;
+      others = λ o out. ap (λ (xs : List Val). value_at xs o) r.same;
+    };
+  }
+
+  pub clear-end : (key reach passed : ℕ) (before after : List Val) → reach ≤ passed → Clearing key reach passed before after →
+      ClearsAll map key before after
+  clear-end key reach passed before after end c = record {
+    gone = λ j below. c.clears.gone j (omega (arith, below, end, c.is));
+    keys = c.clears.keys;
+    others = c.clears.others;
+  }
+
+  pub clear-next : (key reach passed h at : ℕ) (before mid after : List Val) → h ≡ homes map key → at ≡ behind n h passed →
+      at < n → Clearing key reach passed before mid → Empties map at key mid after → Clearing key reach (passed + 1) before after
+  clear-next key reach passed h at before mid after home at_is here c e = record {
+    is = c.is;
+    clears = record {
+      gone = λ j below. each j below (cases_eq (behind n (homes map key) j) at);
+      keys = λ k p apart. e.keys k p apart ∙ c.clears.keys k p apart;
+      others = λ o out. around o out;
+    };
+  }
+    where
+      each : (j : ℕ) → j < passed + 1 → (behind n (homes map key) j ≡ at) ⊎ (behind n (homes map key) j ≡ at → ⊥) →
+          is_key key (key_at map after (behind n (homes map key) j)) ≡ false
+      each j below (inl same) = ap (λ (x : ℕ). is_key key (key_at map after x)) same ∙ e.gone
+      each j below (inr apart) =
+          let away : j ≡ passed → ⊥ =
+          λ is. apart (ap (behind n (homes map key)) is ∙ sym (at_is ∙ ap (λ (x : ℕ). behind n x passed) home)) in
+          ap (λ (v : Val). is_key key (key_of v))
+          (e.others (first + n + behind n (homes map key) j) (λ is. apart (omega (arith, is))))
+          ∙ c.clears.gone j (omega (arith, below, away))
+
+      around : (o : ℕ) → (o < first + n) ⊎ (first + 2 * n ≤ o) → value_at after o ≡ value_at before o
+      around o (inl low) = e.others o (λ is. omega (arith, is, low)) ∙ c.clears.others o (inl low)
+      around o (inr high) = e.others o (λ is. omega (arith, is, high, here)) ∙ c.clears.others o (inr high)
+
+  pub empties-none : (at key o : ℕ) (held : Option ℕ) (before after : List Val) → o ≡ first + n + at →
+      is_key key held ≡ false → Reads key_of o held before after → Empties map at key before after
+  empties-none at key o held before after o_is other reads = record {
+    gone = ap (λ (xs : List Val). is_key key (key_at map xs at)) reads.same
+        ∙ ap (is_key key) (sym (key_read at o held before before after o_is refl reads)) ∙ other;
+    keys = λ k p apart. ap (λ (xs : List Val). is_key k (key_at map xs p)) reads.same;
+    others = λ x apart. ap (λ (xs : List Val). value_at xs x) reads.same;
+  }
+
+  pub empties-some : (at key o p : ℕ) (held had : Option ℕ) (before mid after : List Val) → end_of map ≤ length before →
+      at < n → o ≡ first + n + at → p ≡ first + n + at → is_key key held ≡ true → Reads key_of o held before mid →
+      Writes key_of p had None mid after → Empties map at key before after
+  empties-some at key o p held had before mid after size here o_is p_is it reads writes =
+      let whole : after ≡ slice_set before (first + n + at) writes.kept =
+      writes.after_is ∙ ap (λ (xs : List Val). slice_set xs p writes.kept) reads.same
+      ∙ ap (λ (x : ℕ). slice_set before x writes.kept) p_is in
+      let top : key_at map after at ≡ None =
+      ap (λ (xs : List Val). key_of (value_at xs (first + n + at))) whole
+      ∙ ap key_of (get_or-set_same before (first + n + at) writes.kept no_value (omega (arith, size, here))) ∙ writes.is in
+      let kept : (x : ℕ) → (x ≡ first + n + at → ⊥) → value_at after x ≡ value_at before x =
+      λ x apart. ap (λ (xs : List Val). value_at xs x) whole
+      ∙ get_or-set_other before (first + n + at) x writes.kept no_value apart in
+      record {
+        gone = ap (is_key key) top;
+        keys = λ k x apart. other k x apart top kept (cases_eq x at);
+        others = kept;
+      }
+    where
+      other : (k x : ℕ) → (k ≡ key → ⊥) → key_at map after at ≡ None →
+          ((x : ℕ) → (x ≡ first + n + at → ⊥) → value_at after x ≡ value_at before x) → (x ≡ at) ⊎ (x ≡ at → ⊥) →
+          is_key k (key_at map after x) ≡ is_key k (key_at map before x)
+      other k x apart top kept (inl same) =
+          ap (λ (y : ℕ). is_key k (key_at map after y)) same ∙ ap (is_key k) top
+          ∙ sym (is_key-apart k key (λ e. apart (sym e)))
+          ∙ ap (is_key k) (sym (sym (key_read at o held before before mid o_is refl reads) ∙ key_is key held it))
+          ∙ ap (λ (y : ℕ). is_key k (key_at map before y)) (sym same)
+      other k x apart top kept (inr away) =
+          ap (λ (v : Val). is_key k (key_of v)) (kept (first + n + x) (λ e. away (omega (arith, e))))
+
+-- ---- what the calls do
+
+module _ {V : Type 0} (found : Val → V) (map : HashMap V) where
+  abbrev f : ℕ
+  f = map.cells.first
+
+  abbrev m : ℕ
+  m = map.cells.capacity
+
+  pub stores : (at key o p : ℕ) (value was : V) (had : Option ℕ) (before mid after : List Val) → end_of map ≤ length before →
+      at < m → o ≡ f + m + at → p ≡ f + 2 * m + at → Writes key_of o had (Some key) before mid →
+      Writes found p was value mid after → Stores found map at key value before after
+  stores at key o p value was had before mid after size here o_is p_is puts sets =
+      let one : ℕ = f + m + at in
+      let two : ℕ = f + 2 * m + at in
+      let middle : mid ≡ slice_set before one puts.kept =
+      puts.after_is ∙ ap (λ (x : ℕ). slice_set before x puts.kept) o_is in
+      let whole : after ≡ slice_set (slice_set before one puts.kept) two sets.kept =
+      sets.after_is ∙ ap (λ (x : ℕ). slice_set mid x sets.kept) p_is
+      ∙ ap (λ (xs : List Val). slice_set xs two sets.kept) middle in
+      let long : length (slice_set before one puts.kept) ≡ length before = length-set before one puts.kept in
+      record {
+        key_is = ap (λ (xs : List Val). key_of (value_at xs one)) whole
+            ∙ ap key_of (get_or-set_other (slice_set before one puts.kept) two one sets.kept no_value
+            (λ e. omega (arith, e, here)) ∙ get_or-set_same before one puts.kept no_value (omega (arith, size, here)))
+            ∙ puts.is;
+        value_is = ap (λ (xs : List Val). found (value_at xs two)) whole
+            ∙ ap found (get_or-set_same (slice_set before one puts.kept) two sets.kept no_value
+            (omega (arith, long, size, here))) ∙ sets.is;
+        others = λ x away far.
+            ap (λ (xs : List Val). value_at xs x) whole
+            ∙ get_or-set_other (slice_set before one puts.kept) two x sets.kept no_value far
+            ∙ get_or-set_other before one x puts.kept no_value away;
+      }
+
+  -- a key's value is told
+  pub tells-none : (key : ℕ) (before after : List Val) → Seeks map key None before after → Tells found map key None before after
+  tells-none key before after s = record {
+    is = sym (ap (at_place (values_in found f m before)) s.is);
+    same = s.same;
+  }
+
+  pub tells-if : (key : ℕ) (place : Option ℕ) (before after : List Val) → Seeks map key place before after →
+      TellsIf found map key (is_some place) before after
+  tells-if key place before after s = record {
+    is = sym (ap (λ (o : Option ℕ). is_some (at_place (values_in found f m before) o)) s.is ∙ there place);
+    same = s.same;
+  }
+    where
+      there : (o : Option ℕ) → is_some (at_place (values_in found f m before) o) ≡ is_some o
+      there None = refl
+      there (Some at) = refl
+
+  at_gap : (gap p : ℕ) (v : V) (before mid : List Val) → p ≡ f + 2 * m + gap → mid ≡ before → v ≡ found (value_at mid p) →
+      v ≡ values_in found f m before gap
+  at_gap gap p v before mid p_is same is =
+      is ∙ ap (λ (x : ℕ). found (value_at mid x)) p_is
+      ∙ ap (λ (xs : List Val). found (value_at xs (f + 2 * m + gap))) same
+
+  pub tells-some : (key gap p : ℕ) (v : V) (before mid after : List Val) → p ≡ f + 2 * m + gap →
+      Seeks map key (Some gap) before mid → Reads found p v mid after → Tells found map key (Some v) before after
+  tells-some key gap p v before mid after p_is s reads = record {
+    is = ap Some (at_gap gap p v before mid p_is s.same reads.is)
+        ∙ sym (ap (at_place (values_in found f m before)) s.is);
+    same = reads.same ∙ s.same;
+  }
+
+  -- a key gets another value
+  pub puts-instead : (key gap p : ℕ) (had value : V) (before mid after : List Val) → 0 < m → end_of map ≤ length before →
+      gap < m → p ≡ f + 2 * m + gap → Seeks map key (Some gap) before mid → Writes found p had value mid after →
+      Puts found map key value (Instead had) before after
+  puts-instead key gap p had value before mid after some size here p_is s writes =
+      let at : ℕ = f + 2 * m + gap in
+      let whole : after ≡ slice_set before at writes.kept =
+      writes.after_is ∙ ap (λ (xs : List Val). slice_set xs p writes.kept) s.same
+      ∙ ap (λ (x : ℕ). slice_set before x writes.kept) p_is in
+      let kept : (x : ℕ) → (x ≡ at → ⊥) → value_at after x ≡ value_at before x =
+      λ x apart. ap (λ (xs : List Val). value_at xs x) whole ∙ get_or-set_other before at x writes.kept no_value apart in
+      let place : (k : ℕ) → place_in f m after k ≡ place_in f m before k =
+      λ k. place-kept found f m some before after k
+      (λ q below. ap (λ (v : Val). is_key k (key_of v)) (kept (f + m + q) (λ e. omega (arith, e, below))))
+      (λ h below. ap (λ (v : Val). cond (nat_lt (reach_of v) m) (reach_of v) m)
+      (kept (f + h) (λ e. omega (arith, e, below)))) in
+      record {
+        was = ap (at_place (values_in found f m before)) s.is ∙ ap Some (sym (at_gap gap p had before mid p_is s.same writes.was));
+        is = replaced-here found f m some before after key gap value s.is (place key)
+            (ap (λ (xs : List Val). found (value_at xs at)) whole
+            ∙ ap found (get_or-set_same before at writes.kept no_value (omega (arith, size, here))) ∙ writes.is);
+        others = λ k apart. replaced-other found f m some before after key gap k apart s.is (place k)
+            (λ q below away. ap found (kept (f + 2 * m + q) (λ e. away (omega (arith, e)))));
+        around = λ x out. beside x out kept;
+      }
+    where
+      beside : (x : ℕ) → (x < f) ⊎ (f + 3 * m ≤ x) →
+          ((x : ℕ) → (x ≡ f + 2 * m + gap → ⊥) → value_at after x ≡ value_at before x) → value_at after x ≡ value_at before x
+      beside x (inl low) kept = kept x (λ e. omega (arith, e, low))
+      beside x (inr high) kept = kept x (λ e. omega (arith, e, high, here))
+
+  -- a key that was not there is put
+  pub puts-absent : (key : ℕ) (value : V) (placed : Placed V) (before mid after : List Val) → Seeks map key None before mid →
+      Inserts found map key value placed mid after → Puts found map key value placed before after
+  puts-absent key value placed before mid after s inserts =
+      let told : Inserts found map key value placed before after =
+      subst (λ (xs : List Val). Inserts found map key value placed xs after) s.same inserts in
+      told s.is
+
+  pub inserts-none : (key h : ℕ) (value : V) (before after : List Val) → 0 < m → h ≡ home_in m key →
+      NoneFree map h before after → Inserts found map key value Full before after
+  inserts-none key h value before after some home none absent = record {
+    was = ap (at_place (values_in found f m before)) absent;
+    full = λ at here. all at (distance m h at homed here);
+    same = none.same;
+  }
+    where
+      homed : h < m
+      homed = subst (λ x. x < m) (sym home) (home-within m some key)
+
+      filled : (b : Bool) (o : Option ℕ) → is_free (homes map) h b o ≡ false → is_some o ≡ true
+      filled b None free = absurd (cc)
+      filled b (Some x) free = refl
+
+      all : (at : ℕ) → (j : ℕ) × (j < m) × (behind m h j ≡ at) → is_some (key_at map before at) ≡ true
+      all at d =
+          ap (λ (x : ℕ). is_some (key_at map before x)) (sym d.2)
+          ∙ filled (cond (nat_lt d.0 (reach_at map before h)) false true) (key_at map before (behind m h d.0))
+          (none.taken d.0 d.1)
+
+  inserts-here : (key i : ℕ) (value : V) (before near after : List Val) → 0 < m → i < m →
+      FreeAt map (home_in m key) i before before → Stores found map (behind m (home_in m key) i) key value before near →
+      Extends map (home_in m key) (i + 1) near after → place_in f m before key ≡ None →
+      Makes found map key (Some value) None before after
+  inserts-here key i value before near after some few free s e absent =
+      record {
+        was = ap (at_place (values_in found f m before)) absent;
+        is = added-here found f m some before after key i value few absent free.free free.taken there others far as_far is values;
+        others = λ k apart. added-other found f m some before after key i value few absent free.free free.taken there others far
+            as_far is values k apart;
+        around = λ x out. beside x out;
+      }
+    where
+      h : ℕ
+      h = home_in m key
+
+      p : ℕ
+      p = behind m h i
+
+      homed : h < m
+      homed = home-within m some key
+
+      place : p < m
+      place = behind-below m h i homed few
+
+      kept : (x : ℕ) → (x ≡ f + m + p → ⊥) → (x ≡ f + 2 * m + p → ⊥) → (x ≡ f + h → ⊥) → value_at after x ≡ value_at before x
+      kept x one two three = e.others x three ∙ s.others x one two
+
+      there : keys_in f m after p ≡ Some key
+      there = ap key_of (e.others (f + m + p) (λ same. omega (arith, same, homed))) ∙ s.key_is
+
+      others : (q : ℕ) → q < m → (q ≡ p → ⊥) → keys_in f m after q ≡ keys_in f m before q
+      others q below apart =
+          ap key_of (kept (f + m + q) (λ same. apart (omega (arith, same))) (λ same. omega (arith, same, below))
+          (λ same. omega (arith, same, homed)))
+
+      reach_near : (x : ℕ) → x < m → reach_at map near x ≡ reach_at map before x
+      reach_near x below =
+          ap (λ (v : Val). cond (nat_lt (reach_of v) m) (reach_of v) m)
+          (s.others (f + x) (λ same. omega (arith, same, below)) (λ same. omega (arith, same, below)))
+
+      far : reach_at map after h ≡ cond (nat_lt (reach_at map before h) (i + 1)) (i + 1) (reach_at map before h)
+      far = e.is ∙ ap (λ (r : ℕ). cond (nat_lt r (i + 1)) (i + 1) r) (reach_near h homed)
+
+      as_far : (x : ℕ) → x < m → (x ≡ h → ⊥) → reach_at map after x ≡ reach_at map before x
+      as_far x below apart =
+          ap (λ (v : Val). cond (nat_lt (reach_of v) m) (reach_of v) m) (e.others (f + x) (λ same. apart (omega (arith, same))))
+          ∙ reach_near x below
+
+      is : values_in found f m after p ≡ value
+      is = ap found (e.others (f + 2 * m + p) (λ same. omega (arith, same, homed))) ∙ s.value_is
+
+      values : (q : ℕ) → q < m → (q ≡ p → ⊥) → values_in found f m after q ≡ values_in found f m before q
+      values q below apart =
+          ap found (kept (f + 2 * m + q) (λ same. omega (arith, same, place)) (λ same. apart (omega (arith, same)))
+          (λ same. omega (arith, same, homed)))
+
+      beside : (x : ℕ) → (x < f) ⊎ (f + 3 * m ≤ x) → value_at after x ≡ value_at before x
+      beside x (inl low) =
+          kept x (λ same. omega (arith, same, low)) (λ same. omega (arith, same, low)) (λ same. omega (arith, same, low))
+      beside x (inr high) =
+          kept x (λ same. omega (arith, same, high, place)) (λ same. omega (arith, same, high, place))
+          (λ same. omega (arith, same, high, homed))
+
+  pub inserts-new : (key h passed at : ℕ) (value : V) (before mid near after : List Val) → 0 < m → h ≡ home_in m key →
+      passed < m → at ≡ behind m h passed → FreeAt map h passed before mid → Stores found map at key value mid near →
+      Extends map h (passed + 1) near after → Inserts found map key value New before after
+  inserts-new key h passed at value before mid near after some home few at_is free stored extends absent =
+      inserts-here key passed value before near after some few
+      (subst (λ (x : ℕ). FreeAt map x passed before before) home
+      (subst (λ (xs : List Val). FreeAt map h passed before xs) free.same free))
+      (subst (λ (x : ℕ). Stores found map x key value before near) (at_is ∙ ap (λ (x : ℕ). behind m x passed) home)
+      (subst (λ (xs : List Val). Stores found map at key value xs near) free.same stored))
+      (subst (λ (x : ℕ). Extends map x (passed + 1) near after) home extends) absent
+
+  -- a key is taken out
+  takes-here : (key : ℕ) (had : V) (before after : List Val) → 0 < m → item_of found map before key ≡ Some had →
+      ClearsAll map key before after → Makes found map key None (Some had) before after
+  takes-here key had before after some was c = record {
+    was = was;
+    is = removed-here found f m some before after key c.gone (reach (home_in m key) (home-within m some key));
+    others = λ k apart. item-same found f m some before after k
+        (place-kept found f m some before after k (λ q below. c.keys k q apart) reach)
+        (λ q at. ap found (c.others (f + 2 * m + q) (inr (omega arith))));
+    around = λ x out. beside x out;
+  }
+    where
+      reach : (h : ℕ) → h < m → reach_at map after h ≡ reach_at map before h
+      reach h below =
+          ap (λ (v : Val). cond (nat_lt (reach_of v) m) (reach_of v) m) (c.others (f + h) (inl (omega (arith, below))))
+
+      beside : (x : ℕ) → (x < f) ⊎ (f + 3 * m ≤ x) → value_at after x ≡ value_at before x
+      beside x (inl low) = c.others x (inl (omega (arith, low)))
+      beside x (inr high) = c.others x (inr (omega (arith, high)))
+
+  pub takes-out : (key : ℕ) (had : V) (before mid after : List Val) → 0 < m → Tells found map key (Some had) before mid →
+      ClearsAll map key mid after → Makes found map key None (Some had) before after
+  takes-out key had before mid after some tells clears =
+      takes-here key had before after some (sym tells.is)
+      (subst (λ (xs : List Val). ClearsAll map key xs after) tells.same clears)
+
+  -- a map is made
+  pub makes : (cells : ℕ) (kept : Val) (before after : List Val) → after ≡ before ++ replicate cells kept →
+      kept.low ≡ 0 → kept.high ≡ 0 → f ≡ length before → cells ≡ 3 * m → 0 < m → Adds found map before after
+  makes cells kept before after whole low high start count some = record {
+    added = replicate cells kept;
+    behind = whole;
+    first = start;
+    count = length-replicate cells kept ∙ count;
+    empty = λ key. ap (λ (r : ℕ). at_place (values_in found f m after) (find m (key_at map after) key (home_in m key) 0 r))
+        (none (home_in m key) (home-within m some key));
+    free = λ at here. ap key_of (stands (m + at) (f + m + at) (omega (arith, here)) (omega arith))
+        ∙ unkeyed kept high;
+  }
+    where
+      stands : (x o : ℕ) → x < 3 * m → o ≡ f + x → value_at after o ≡ kept
+      stands x o less o_is =
+          ap (λ (xs : List Val). value_at xs o) whole ∙ ap (value_at (before ++ replicate cells kept)) (o_is ∙ ap (λ (a : ℕ). a + x) start)
+          ∙ get_or-append-add before (replicate cells kept) x no_value
+          ∙ get_or-replicate cells x kept no_value (omega (arith, less, count))
+
+      none : (h : ℕ) → h < m → reach_at map after h ≡ 0
+      none h here =
+          ap (λ (v : Val). cond (nat_lt (reach_of v) m) (reach_of v) m) (stands h (f + h) (omega (arith, here)) refl)
+          ∙ zero_reach kept.low low
+        where
+          zero_reach : (a : ℕ) → a ≡ 0 → cond (nat_lt a m) a m ≡ 0
+          zero_reach a is = grind (arith, is, some)
+
+      unkeyed : (v : Val) → v.high ≡ 0 → key_of v ≡ None
+      unkeyed v is = ap (λ (h : ℕ). cond (h == 1) (Some v.low) None) is

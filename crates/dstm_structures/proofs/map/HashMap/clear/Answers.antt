@@ -1,0 +1,55 @@
+use Rattle.std.proofs.Common.{◌∙◌, ◌+◌, arith}
+use Rattle.dstm_cells.specs.Alternatives.{noting}
+use Rattle.dstm_structures.specs.Maps.{ClearsAll, Empties, Reaches, end_of}
+use Rattle.dstm_structures.proofs.Doing.{does-as, does-then}
+use Rattle.dstm_structures.proofs.Mapping.{Clearing, clear-end, clear-next, clear-start}
+use Rattle.dstm_structures.proofs.Noting.{notes_twice}
+use Rattle.dstm_structures.proofs.map.HashMap.clear.Goals as goal
+
+pub loop-passed-init : goal.loop-passed-init
+loop-passed-init g c = (
+  c.in_ok-reach.ensures.keeps,
+  c.in_ok-reach.ensures.notes,
+  does-as g.L.Law.holds (end_of c.args.self) (Reaches c.args.self c.home-home.result c.in_ok-reach.reach)
+      (Clearing c.args.self c.args.key c.in_ok-reach.reach 0) c.args.tx.now.attempts.caller c.reach.new.tx.attempts.caller
+      c.in_ok-reach.ensures.reaches
+      (λ before after size. clear-start c.args.self c.args.key c.home-home.result c.in_ok-reach.reach before after
+      c.home-home.ensures.home),
+)
+
+pub returns-in_err-empty-clause-keeps : goal.returns-in_err-empty-clause-keeps
+returns-in_err-empty-clause-keeps g c = c.in_err-empty.ensures.keeps ∙ c.loop-passed.invariant.0
+
+pub returns-in_err-empty-clause-notes : goal.returns-in_err-empty-clause-notes
+returns-in_err-empty-clause-notes g c =
+    notes_twice g.L.Law.holds (noting c.args.tx.now) (noting c.loop-passed.tx) (noting c.empty.new.tx)
+    c.loop-passed.invariant.1 c.in_err-empty.ensures.notes
+
+pub loop-passed-preserved : goal.loop-passed-preserved
+loop-passed-preserved g c = (
+  c.in_ok-empty.ensures.keeps ∙ c.loop-passed.invariant.0,
+  notes_twice g.L.Law.holds (noting c.args.tx.now) (noting c.loop-passed.tx) (noting c.empty.new.tx)
+      c.loop-passed.invariant.1 c.in_ok-empty.ensures.notes,
+  does-then g.L.Law.holds (end_of c.args.self) (Clearing c.args.self c.args.key c.in_ok-reach.reach c.loop-passed.passed)
+      (Empties c.args.self c.behind.result c.args.key)
+      (Clearing c.args.self c.args.key c.in_ok-reach.reach (c.loop-passed.passed + 1)) c.args.tx.now.attempts.caller
+      c.loop-passed.tx.attempts.caller c.empty.new.tx.attempts.caller c.loop-passed.invariant.0 c.loop-passed.invariant.2
+      c.in_ok-empty.ensures.empties
+      (λ before mid after size. clear-next c.args.self c.args.key c.in_ok-reach.reach c.loop-passed.passed
+      c.home-home.result c.behind.result before mid after c.home-home.ensures.home c.behind.ensures.behind
+      c.behind.ensures.within),
+)
+
+pub returns-clause-keeps : goal.returns-clause-keeps
+returns-clause-keeps g c = c.loop-passed.invariant.0
+
+pub returns-clause-notes : goal.returns-clause-notes
+returns-clause-notes g c = c.loop-passed.invariant.1
+
+pub returns-clause-clears : goal.returns-clause-clears
+returns-clause-clears g c =
+    does-as g.L.Law.holds (end_of c.args.self) (Clearing c.args.self c.args.key c.in_ok-reach.reach c.loop-passed.passed)
+    (ClearsAll c.args.self c.args.key) c.args.tx.now.attempts.caller c.loop-passed.tx.attempts.caller
+    c.loop-passed.invariant.2
+    (λ before after size. clear-end c.args.self c.args.key c.in_ok-reach.reach c.loop-passed.passed before after
+    (omega (arith, c.loop-passed-test.false)))

@@ -1,0 +1,13 @@
+use Rattle.dstm_cells.specs.Alternatives.{Notes, noting}
+use Rattle.dstm_cells.specs.UnderWay.{Keeps}
+use Rattle.dstm_structures.specs.Effects.{Does}
+use Rattle.dstm_structures.specs.Maps.{end_of}
+use Rattle.dstm_structures.proofs.Mapping.{Clearing}
+use Rattle.dstm_structures.proofs.map.HashMap.clear.Given as goal
+
+-- the places that were passed do not hold the key any more
+abbrev pub invariant-loop-passed : goal.invariant-loop-passed
+invariant-loop-passed g l =
+    Keeps l.fn.tx.attempts.caller l.tx.attempts.caller
+    × Notes g.L.Law.holds (noting l.fn.tx) (noting l.tx)
+    × Does g.L.Law.holds (end_of l.self) (Clearing l.self l.key l.reach l.passed) l.fn.tx.attempts.caller l.tx.attempts.caller

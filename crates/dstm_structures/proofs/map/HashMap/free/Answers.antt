@@ -1,0 +1,72 @@
+use Rattle.std.proofs.Common.{◌∙◌, ◌+◌, arith, sym}
+use Rattle.std.specs.Prelude.{None, Some}
+use Rattle.dstm_cells.specs.Alternatives.{noting}
+use Rattle.dstm_structures.specs.Maps.{Frees, Reaches, end_of, key_of}
+use Rattle.dstm_structures.proofs.Doing.{does-as, then-read}
+use Rattle.dstm_structures.proofs.Mapping.{Passing, pass-found, pass-next, pass-none, pass-start}
+use Rattle.dstm_structures.proofs.Noting.{notes_twice}
+use Rattle.dstm_structures.proofs.map.HashMap.free.Goals as goal
+
+pub loop-passed-init : goal.loop-passed-init
+loop-passed-init g c = (
+  c.in_ok-reach.ensures.keeps,
+  c.in_ok-reach.ensures.notes,
+  does-as g.L.Law.holds (end_of c.args.self) (Reaches c.args.self c.args.home c.in_ok-reach.reach)
+      (Passing c.args.self c.args.home c.in_ok-reach.reach 0) c.args.tx.now.attempts.caller c.reach.new.tx.attempts.caller
+      c.in_ok-reach.ensures.reaches
+      (λ before after size. pass-start c.args.self c.args.home c.in_ok-reach.reach before after),
+)
+
+pub returns-in_err-held-clause-keeps : goal.returns-in_err-held-clause-keeps
+returns-in_err-held-clause-keeps g c = c.in_err-held.ensures.keeps ∙ c.loop-passed.invariant.0
+
+pub returns-in_err-held-clause-notes : goal.returns-in_err-held-clause-notes
+returns-in_err-held-clause-notes g c =
+    notes_twice g.L.Law.holds (noting c.args.tx.now) (noting c.loop-passed.tx) (noting c.get.new.self)
+    c.loop-passed.invariant.1 c.in_err-held.ensures.notes
+
+pub returns-then-is_free-clause-keeps : goal.returns-then-is_free-clause-keeps
+returns-then-is_free-clause-keeps g c = c.in_ok-held.ensures.keeps ∙ c.loop-passed.invariant.0
+
+pub returns-then-is_free-clause-notes : goal.returns-then-is_free-clause-notes
+returns-then-is_free-clause-notes g c =
+    notes_twice g.L.Law.holds (noting c.args.tx.now) (noting c.loop-passed.tx) (noting c.get.new.self)
+    c.loop-passed.invariant.1 c.in_ok-held.ensures.notes
+
+pub returns-then-is_free-clause-frees : goal.returns-then-is_free-clause-frees
+returns-then-is_free-clause-frees g c =
+    then-read g.L.Law.holds (end_of c.args.self) (Passing c.args.self c.args.home c.in_ok-reach.reach c.loop-passed.passed)
+    (Frees c.args.self c.args.home (Some c.loop-passed.passed)) key_of c.args.tx.now.attempts.caller
+    c.loop-passed.tx.attempts.caller c.get.new.self.attempts.caller c.key_at.result.object c.in_ok-held.held
+    c.loop-passed.invariant.0 c.loop-passed.invariant.2 c.in_ok-held.ensures.gets
+    (λ before mid after size p reads. pass-found c.args.self c.args.home c.in_ok-reach.reach c.loop-passed.passed
+    c.behind.result c.key_at.result.object c.in_ok-held.held _ before mid after c.behind.ensures.behind c.key_at.ensures
+    (grind arith) p reads (sym c.is_free.ensures ∙ c.if-is_free.true))
+
+pub loop-passed-preserved : goal.loop-passed-preserved
+loop-passed-preserved g c = (
+  c.in_ok-held.ensures.keeps ∙ c.loop-passed.invariant.0,
+  notes_twice g.L.Law.holds (noting c.args.tx.now) (noting c.loop-passed.tx) (noting c.get.new.self)
+      c.loop-passed.invariant.1 c.in_ok-held.ensures.notes,
+  then-read g.L.Law.holds (end_of c.args.self) (Passing c.args.self c.args.home c.in_ok-reach.reach c.loop-passed.passed)
+      (Passing c.args.self c.args.home c.in_ok-reach.reach (c.loop-passed.passed + 1)) key_of c.args.tx.now.attempts.caller
+      c.loop-passed.tx.attempts.caller c.get.new.self.attempts.caller c.key_at.result.object c.in_ok-held.held
+      c.loop-passed.invariant.0 c.loop-passed.invariant.2 c.in_ok-held.ensures.gets
+      (λ before mid after size p reads. pass-next c.args.self c.args.home c.in_ok-reach.reach c.loop-passed.passed
+      c.behind.result c.key_at.result.object c.in_ok-held.held _ before mid after c.behind.ensures.behind c.key_at.ensures
+      (grind arith) p reads (sym c.is_free.ensures ∙ c.if-is_free.false)),
+)
+
+pub returns-clause-keeps : goal.returns-clause-keeps
+returns-clause-keeps g c = c.loop-passed.invariant.0
+
+pub returns-clause-notes : goal.returns-clause-notes
+returns-clause-notes g c = c.loop-passed.invariant.1
+
+pub returns-clause-frees : goal.returns-clause-frees
+returns-clause-frees g c =
+    does-as g.L.Law.holds (end_of c.args.self) (Passing c.args.self c.args.home c.in_ok-reach.reach c.loop-passed.passed)
+    (Frees c.args.self c.args.home None) c.args.tx.now.attempts.caller c.loop-passed.tx.attempts.caller
+    c.loop-passed.invariant.2
+    (λ before after size. pass-none c.args.self c.args.home c.in_ok-reach.reach c.loop-passed.passed before after
+    (omega (arith, c.loop-passed-test.false)))

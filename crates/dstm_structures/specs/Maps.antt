@@ -1,0 +1,178 @@
+-- What a map's cells hold, and what the calls on it do.
+use Rattle.std.specs.Prelude.{◌≡◌, ◌≢◌, ◌⊎◌, ℕ, ◌+◌, ◌*◌, ◌/◌, ◌%◌, ◌^◌, ◌<◌, ◌≤◌, ◌==◌, Bool, true, false, if◌then◌else◌, nat_lt, List, ◌++◌, length, Option, None, Some, is_some}
+use Rattle.dstm_model.specs.declared.value.Val.{Val}
+use Rattle.dstm_model.specs.Map.{value_at}
+use Rattle.dstm_structures.specs.Circles.{behind}
+use Rattle.dstm_structures.specs.Places.{AreTaken, find, is_free, is_key}
+use Rattle.dstm_structures.specs.declared.map.HashMap.{HashMap}
+use Rattle.dstm_structures.specs.declared.map.Placed.{Placed}
+use Rattle.dstm_structures.specs.declared.map.Placed.TheVariants.{New, Instead, Full}
+
+-- the place of n from which on a key is looked for
+abbrev pub home_in : ℕ → ℕ → ℕ
+home_in n key = (key * 11400714819323198485 % 2 ^ 64 / 4294967296) % n
+
+-- the key that a value tells, if it tells one
+abbrev pub key_of : Val → Option ℕ
+key_of val = if val.high == 1 then Some val.low else None
+
+-- at how many places keys are looked for, by what a value tells
+abbrev pub reach_of : Val → ℕ
+reach_of val = val.low
+
+-- The cells of a map of n places: for each place one that tells at how many places from it on keys are looked for whose home
+-- it is, then one for each that tells its key, and then one for each that holds the value.
+module _ (first n : ℕ) where
+  abbrev pub reach_in : List Val → ℕ → ℕ
+  reach_in map home =
+      if nat_lt (reach_of (value_at map (first + home))) n then reach_of (value_at map (first + home)) else n
+
+  abbrev pub keys_in : List Val → ℕ → Option ℕ
+  keys_in map at = key_of (value_at map (first + n + at))
+
+  abbrev pub place_in : List Val → ℕ → Option ℕ
+  place_in map key = find n (keys_in map) key (home_in n key) 0 (reach_in map (home_in n key))
+
+  -- every object but those of the map keeps its value
+  abbrev pub KeepsAround : List Val → List Val → Type 0
+  KeepsAround before after = (o : ℕ) → (o < first) ⊎ (first + 3 * n ≤ o) → value_at after o ≡ value_at before o
+
+abbrev pub at_place : {V : Type 0} → (ℕ → V) → Option ℕ → Option V
+at_place values None = None
+at_place values (Some at) = Some (values at)
+
+module _ {V : Type 0} (found : Val → V) (first n : ℕ) where
+  abbrev pub values_in : List Val → ℕ → V
+  values_in map at = found (value_at map (first + 2 * n + at))
+
+  -- the value of a key, if it is there
+  abbrev pub item_in : List Val → ℕ → Option V
+  item_in map key = at_place (values_in map) (place_in first n map key)
+
+-- the objects of a map are among so many
+abbrev pub end_of : {V : Type 0} → HashMap V → ℕ
+end_of map = map.cells.first + 3 * map.cells.capacity
+
+-- ---- what a search does
+
+module _ {V : Type 0} (map : HashMap V) where
+  abbrev pub reach_at : List Val → ℕ → ℕ
+  reach_at values home = reach_in map.cells.first map.cells.capacity values home
+
+  abbrev pub key_at : List Val → ℕ → Option ℕ
+  key_at values at = keys_in map.cells.first map.cells.capacity values at
+
+  abbrev pub homes : ℕ → ℕ
+  homes key = home_in map.cells.capacity key
+
+  -- keys of this home are looked for at so many places
+  pub record Reaches (home reach : ℕ) (before after : List Val) : Type 0 where
+    pub is : reach ≡ reach_at before home
+    pub same : after ≡ before
+
+  -- a key was looked for, and found at this place, or nowhere
+  pub record Seeks (key : ℕ) (place : Option ℕ) (before after : List Val) : Type 0 where
+    pub is : place_in map.cells.first map.cells.capacity before key ≡ place
+    pub same : after ≡ before
+
+  -- the first place that is free for keys of this home stands so far behind it
+  pub record FreeAt (home passed : ℕ) (before after : List Val) : Type 0 where
+    pub free : is_free homes home (if nat_lt passed (reach_at before home) then false else true)
+        (key_at before (behind map.cells.capacity home passed)) ≡ true
+    pub taken : AreTaken map.cells.capacity homes (key_at before) home (reach_at before home) passed
+    pub same : after ≡ before
+
+  -- no place is free for keys of this home
+  pub record NoneFree (home : ℕ) (before after : List Val) : Type 0 where
+    pub taken : AreTaken map.cells.capacity homes (key_at before) home (reach_at before home) map.cells.capacity
+    pub same : after ≡ before
+
+  abbrev pub Frees : (home : ℕ) → Option ℕ → List Val → List Val → Type 0
+  Frees home None before after = NoneFree home before after
+  Frees home (Some passed) before after = FreeAt home passed before after
+
+  -- ---- what is set
+
+  -- keys of this home are looked for at so many places at least
+  pub record Extends (home far : ℕ) (before after : List Val) : Type 0 where
+    pub is : reach_at after home ≡ (if nat_lt (reach_at before home) far then far else reach_at before home)
+    pub others : (o : ℕ) → o ≢ map.cells.first + home → value_at after o ≡ value_at before o
+
+  -- this place does not hold the key any more, and no other key was set
+  pub record Empties (at key : ℕ) (before after : List Val) : Type 0 where
+    pub gone : is_key key (key_at after at) ≡ false
+    pub keys : (k p : ℕ) → k ≢ key → is_key k (key_at after p) ≡ is_key k (key_at before p)
+    pub others : (o : ℕ) → o ≢ map.cells.first + map.cells.capacity + at → value_at after o ≡ value_at before o
+
+  -- of the places at which a key is looked for, the first ones do not hold it any more, and no other key was set
+  pub record Clears (key passed : ℕ) (before after : List Val) : Type 0 where
+    pub gone : (j : ℕ) → j < passed → is_key key (key_at after (behind map.cells.capacity (homes key) j)) ≡ false
+    pub keys : (k p : ℕ) → k ≢ key → is_key k (key_at after p) ≡ is_key k (key_at before p)
+    pub others : (o : ℕ) →
+        (o < map.cells.first + map.cells.capacity) ⊎ (map.cells.first + 2 * map.cells.capacity ≤ o) →
+        value_at after o ≡ value_at before o
+
+  abbrev pub ClearsAll : (key : ℕ) → List Val → List Val → Type 0
+  ClearsAll key before after = Clears key (reach_at before (homes key)) before after
+
+-- ---- what the calls do
+
+module _ {V : Type 0} (found : Val → V) (map : HashMap V) where
+  -- WHAT A MAP HAS FOR A KEY, by the values of all objects
+  abbrev pub item_of : List Val → ℕ → Option V
+  item_of values key = item_in found map.cells.first map.cells.capacity values key
+
+  -- A KEY'S VALUE WAS TOLD, if it was there, and nothing was set
+  pub record Tells (key : ℕ) (answer : Option V) (before after : List Val) : Type 0 where
+    pub is : answer ≡ item_of before key
+    pub same : after ≡ before
+
+  -- it was told whether a key is there, and nothing was set
+  pub record TellsIf (key : ℕ) (answer : Bool) (before after : List Val) : Type 0 where
+    pub is : answer ≡ is_some (item_of before key)
+    pub same : after ≡ before
+
+  -- A KEY HAS THIS NOW, and had that before; every other key has what it had, and no object around the map was set
+  pub record Makes (key : ℕ) (now had : Option V) (before after : List Val) : Type 0 where
+    pub was : item_of before key ≡ had
+    pub is : item_of after key ≡ now
+    pub others : (k : ℕ) → k ≢ key → item_of after k ≡ item_of before k
+    pub around : KeepsAround map.cells.first map.cells.capacity before after
+
+  -- a key was not there, each place holds one, and nothing was set
+  pub record HasNoRoom (key : ℕ) (before after : List Val) : Type 0 where
+    pub was : item_of before key ≡ None
+    pub full : (at : ℕ) → at < map.cells.capacity → is_some (key_at map before at) ≡ true
+    pub same : after ≡ before
+
+  -- WHAT PUTTING A KEY DOES, by the answer
+  abbrev pub Puts : ℕ → V → Placed V → List Val → List Val → Type 0
+  Puts key value New before after = Makes key (Some value) None before after
+  Puts key value (Instead had) before after = Makes key (Some value) (Some had) before after
+  Puts key value Full before after = HasNoRoom key before after
+
+  -- what putting a key does that is not there
+  abbrev pub Inserts : ℕ → V → Placed V → List Val → List Val → Type 0
+  Inserts key value placed before after =
+      place_in map.cells.first map.cells.capacity before key ≡ None → Puts key value placed before after
+
+  -- a key was put into a place with its value
+  pub record Stores (at key : ℕ) (value : V) (before after : List Val) : Type 0 where
+    pub key_is : key_at map after at ≡ Some key
+    pub value_is : values_in found map.cells.first map.cells.capacity after at ≡ value
+    pub others : (o : ℕ) → o ≢ map.cells.first + map.cells.capacity + at → o ≢ map.cells.first + 2 * map.cells.capacity + at →
+        value_at after o ≡ value_at before o
+
+  -- WHAT TAKING A KEY OUT DOES, by the answer
+  abbrev pub Removes : ℕ → Option V → List Val → List Val → Type 0
+  Removes key None before after = Tells key None before after
+  Removes key (Some had) before after = Makes key None (Some had) before after
+
+  -- an empty map has got the objects behind those before
+  pub record Adds (before after : List Val) : Type 0 where
+    pub added : List Val
+    pub behind : after ≡ before ++ added
+    pub first : map.cells.first ≡ length before
+    pub count : length added ≡ 3 * map.cells.capacity
+    pub empty : (key : ℕ) → item_of after key ≡ None
+    pub free : (at : ℕ) → at < map.cells.capacity → key_at map after at ≡ None

@@ -1,0 +1,332 @@
+// A hash map in the cells of a memory.
+ghost use Rattle.std.specs.Prelude.{◌≡◌, ◌+◌, ◌*◌, ◌<◌, ◌≤◌, false, IfErr, IfOk, IfSome, OnOk};
+ghost use Rattle.dstm_cells.specs.Alternatives.{Notes, noting};
+ghost use Rattle.dstm_cells.specs.UnderWay.{Keeps};
+ghost use Rattle.dstm_structures.specs.Circles.{behind};
+ghost use Rattle.dstm_structures.specs.Effects.{Does, Stops};
+ghost use Rattle.dstm_structures.specs.Maps.{Adds, ClearsAll, Empties, Extends, Frees, Inserts, Puts, Reaches, Removes, Seeks, Stores, Tells, TellsIf, end_of, home_in};
+ghost use Rattle.dstm_structures.specs.Places.{is_free, is_key};
+
+use crate::cells::{Rows, cell, number};
+use dstm_cells::{Cell, Failed, MOST_CELLS, Memory, Stop, Tx, Word};
+use dstm_model::Law;
+use std::marker::PhantomData;
+
+/// A map of at most so many keys, in the cells of a memory. It is a name: copies of it name the same map.
+#[derive(Clone, Copy)]
+pub struct HashMap<V> {
+    pub(crate) cells: Rows,
+    holds: PhantomData<V>,
+}
+
+/// How a key was put into a map.
+#[derive(Clone, Copy, Debug, PartialEq, Eq)]
+pub enum Placed<V> {
+    /// It was not there.
+    New,
+    /// It was there, with this value.
+    Instead(V),
+    /// It was not there, and there is no room for another one. Nothing is set.
+    Full,
+}
+
+impl<V: Word> HashMap<V> {
+    /// An empty map in new cells of a memory: three for each key that it has room for, which are from 1 on.
+    pub fn new<L: Law + Copy>(memory: &mut Memory<L>, capacity: u32) -> Result<HashMap<V>, Failed>
+        ensures adds { IfOk result (λ map. Adds V.found map memory.old.values.items memory.new.values.items) }
+        ensures capacity { IfOk result (λ map. map.cells.capacity ≡ capacity) }
+        ensures fails { IfErr result (λ why. memory.new.values.items ≡ memory.old.values.items) }
+        ensures engine { memory.new.engine ≡ memory.old.engine }
+        ensures law { memory.new.law ≡ memory.old.law }
+    {
+        if capacity == 0 || capacity > MOST_CELLS / 3 {
+            return Err(Failed::Full);
+        }
+        let cells = memory.cells((0u64, 0u64), 3 * capacity)?;
+        let cells = Rows {
+            first: number(cells[0]),
+            capacity,
+        };
+        Ok(HashMap {
+            cells,
+            holds: PhantomData,
+        })
+    }
+
+    /// How many keys it has room for.
+    pub fn capacity(self) -> u32
+        ensures { result ≡ self.cells.capacity }
+    {
+        self.cells.capacity
+    }
+
+    /// The value of a key, if it is there.
+    pub fn get<L: Law>(self, tx: &mut Tx<'_, L>, key: u64) -> Result<Option<V>, Stop>
+        ensures keeps { Keeps tx.old.attempts.caller tx.new.attempts.caller }
+        ensures notes { Notes L.holds (noting tx.old) (noting tx.new) }
+        ensures stops { IfErr result (λ stop. Stops (end_of self) false tx.old.attempts.caller stop.why) }
+        ensures tells { IfOk result (λ answer. Does L.holds (end_of self) (Tells V.found self key answer)
+            tx.old.attempts.caller tx.new.attempts.caller) }
+    {
+        let found = self.find(tx, key)?;
+        let Some(at) = found else {
+            return Ok(None);
+        };
+        let value = tx.get(self.value_at(at))?;
+        Ok(Some(value))
+    }
+
+    /// Tells whether a key is there.
+    pub fn contains<L: Law>(self, tx: &mut Tx<'_, L>, key: u64) -> Result<bool, Stop>
+        ensures keeps { Keeps tx.old.attempts.caller tx.new.attempts.caller }
+        ensures notes { Notes L.holds (noting tx.old) (noting tx.new) }
+        ensures stops { IfErr result (λ stop. Stops (end_of self) false tx.old.attempts.caller stop.why) }
+        ensures tells { IfOk result (λ answer. Does L.holds (end_of self) (TellsIf V.found self key answer)
+            tx.old.attempts.caller tx.new.attempts.caller) }
+    {
+        let found = self.find(tx, key)?;
+        Ok(found.is_some())
+    }
+
+    /// Gives a key this value, and adds the key where it is not there.
+    pub fn put<L: Law>(self, tx: &mut Tx<'_, L>, key: u64, value: V) -> Result<Placed<V>, Stop>
+        ensures keeps { Keeps tx.old.attempts.caller tx.new.attempts.caller }
+        ensures notes { Notes L.holds (noting tx.old) (noting tx.new) }
+        ensures stops { IfErr result (λ stop. Stops (end_of self) tx.old.notes tx.old.attempts.caller stop.why) }
+        ensures puts { IfOk result (λ placed. Does L.holds (end_of self) (Puts V.found self key value placed)
+            tx.old.attempts.caller tx.new.attempts.caller) }
+    {
+        let found = self.find(tx, key)?;
+        let Some(at) = found else {
+            let placed = self.insert(tx, key, value)?;
+            return Ok(placed);
+        };
+        let had = tx.replace(self.value_at(at), value)?;
+        Ok(Placed::Instead(had))
+    }
+
+    /// Takes a key out, and answers its value, if it is there.
+    pub fn remove<L: Law>(self, tx: &mut Tx<'_, L>, key: u64) -> Result<Option<V>, Stop>
+        ensures keeps { Keeps tx.old.attempts.caller tx.new.attempts.caller }
+        ensures notes { Notes L.holds (noting tx.old) (noting tx.new) }
+        ensures stops { IfErr result (λ stop. Stops (end_of self) tx.old.notes tx.old.attempts.caller stop.why) }
+        ensures removes { IfOk result (λ removed. Does L.holds (end_of self) (Removes V.found self key removed)
+            tx.old.attempts.caller tx.new.attempts.caller) }
+    {
+        let found = self.get(tx, key)?;
+        let Some(value) = found else {
+            return Ok(None);
+        };
+        self.clear(tx, key)?;
+        Ok(Some(value))
+    }
+
+    // The place of a key, if it is there.
+    fn find<L: Law>(self, tx: &mut Tx<'_, L>, key: u64) -> Result<Option<u32>, Stop>
+        ensures keeps { Keeps tx.old.attempts.caller tx.new.attempts.caller }
+        ensures notes { Notes L.holds (noting tx.old) (noting tx.new) }
+        ensures stops { IfErr result (λ stop. Stops (end_of self) false tx.old.attempts.caller stop.why) }
+        ensures within { IfOk result (λ place. IfSome place (λ at. at < self.cells.capacity)) }
+        ensures seeks { IfOk result (λ place. Does L.holds (end_of self) (Seeks self key place)
+            tx.old.attempts.caller tx.new.attempts.caller) }
+    {
+        let home = self.home(key);
+        let reach = self.reach(tx, home)?;
+        for passed in 0..reach {
+            let at = self.behind(home, passed);
+            let held = tx.get(self.key_at(at))?;
+            if is_key(key, held) {
+                return Ok(Some(at));
+            }
+        }
+        Ok(None)
+    }
+
+    // Puts a key that is not there into the first free place from its home on.
+    fn insert<L: Law>(self, tx: &mut Tx<'_, L>, key: u64, value: V) -> Result<Placed<V>, Stop>
+        ensures keeps { Keeps tx.old.attempts.caller tx.new.attempts.caller }
+        ensures notes { Notes L.holds (noting tx.old) (noting tx.new) }
+        ensures stops { IfErr result (λ stop. Stops (end_of self) tx.old.notes tx.old.attempts.caller stop.why) }
+        ensures inserts { IfOk result (λ placed. Does L.holds (end_of self) (Inserts V.found self key value placed)
+            tx.old.attempts.caller tx.new.attempts.caller) }
+    {
+        let home = self.home(key);
+        let free = self.free(tx, home)?;
+        let Some(passed) = free else {
+            return Ok(Placed::Full);
+        };
+        self.store(tx, self.behind(home, passed), key, value)?;
+        self.extend(tx, home, passed + 1)?;
+        Ok(Placed::New)
+    }
+
+    // How far behind a home the first place is that is free for keys of this home.
+    fn free<L: Law>(self, tx: &mut Tx<'_, L>, home: u32) -> Result<Option<u32>, Stop>
+        requires { home < self.cells.capacity }
+        ensures keeps { Keeps tx.old.attempts.caller tx.new.attempts.caller }
+        ensures notes { Notes L.holds (noting tx.old) (noting tx.new) }
+        ensures stops { IfErr result (λ stop. Stops (end_of self) false tx.old.attempts.caller stop.why) }
+        ensures within { IfOk result (λ free. IfSome free (λ passed. passed < self.cells.capacity)) }
+        ensures frees { IfOk result (λ free. Does L.holds (end_of self) (Frees self home free)
+            tx.old.attempts.caller tx.new.attempts.caller) }
+    {
+        let reach = self.reach(tx, home)?;
+        for passed in 0..self.cells.capacity {
+            let held = tx.get(self.key_at(self.behind(home, passed)))?;
+            if self.is_free(home, passed >= reach, held) {
+                return Ok(Some(passed));
+            }
+        }
+        Ok(None)
+    }
+
+    // Puts a key with its value into a place.
+    fn store<L: Law>(self, tx: &mut Tx<'_, L>, at: u32, key: u64, value: V) -> Result<(), Stop>
+        requires { at < self.cells.capacity }
+        ensures keeps { Keeps tx.old.attempts.caller tx.new.attempts.caller }
+        ensures notes { Notes L.holds (noting tx.old) (noting tx.new) }
+        ensures stops { IfErr result (λ stop. Stops (end_of self) tx.old.notes tx.old.attempts.caller stop.why) }
+        ensures stores { OnOk result (Does L.holds (end_of self) (Stores V.found self at key value)
+            tx.old.attempts.caller tx.new.attempts.caller) }
+    {
+        tx.set(self.key_at(at), Some(key))?;
+        tx.set(self.value_at(at), value)?;
+        Ok(())
+    }
+
+    // Keys of this home are looked for at so many places at least.
+    fn extend<L: Law>(self, tx: &mut Tx<'_, L>, home: u32, far: u32) -> Result<(), Stop>
+        requires home { home < self.cells.capacity }
+        requires far { far ≤ self.cells.capacity }
+        ensures keeps { Keeps tx.old.attempts.caller tx.new.attempts.caller }
+        ensures notes { Notes L.holds (noting tx.old) (noting tx.new) }
+        ensures stops { IfErr result (λ stop. Stops (end_of self) tx.old.notes tx.old.attempts.caller stop.why) }
+        ensures extends { OnOk result (Does L.holds (end_of self) (Extends self home far)
+            tx.old.attempts.caller tx.new.attempts.caller) }
+    {
+        let reach = self.reach(tx, home)?;
+        if reach >= far {
+            return Ok(());
+        }
+        tx.set(self.reach_at(home), u64::from(far))?;
+        Ok(())
+    }
+
+    // Takes a key out of each place at which it is looked for.
+    fn clear<L: Law>(self, tx: &mut Tx<'_, L>, key: u64) -> Result<(), Stop>
+        ensures keeps { Keeps tx.old.attempts.caller tx.new.attempts.caller }
+        ensures notes { Notes L.holds (noting tx.old) (noting tx.new) }
+        ensures stops { IfErr result (λ stop. Stops (end_of self) tx.old.notes tx.old.attempts.caller stop.why) }
+        ensures clears { OnOk result (Does L.holds (end_of self) (ClearsAll self key)
+            tx.old.attempts.caller tx.new.attempts.caller) }
+    {
+        let home = self.home(key);
+        let reach = self.reach(tx, home)?;
+        for passed in 0..reach {
+            self.empty(tx, self.behind(home, passed), key)?;
+        }
+        Ok(())
+    }
+
+    // Takes a key out of a place, if it stands there.
+    fn empty<L: Law>(self, tx: &mut Tx<'_, L>, at: u32, key: u64) -> Result<(), Stop>
+        requires { at < self.cells.capacity }
+        ensures keeps { Keeps tx.old.attempts.caller tx.new.attempts.caller }
+        ensures notes { Notes L.holds (noting tx.old) (noting tx.new) }
+        ensures stops { IfErr result (λ stop. Stops (end_of self) tx.old.notes tx.old.attempts.caller stop.why) }
+        ensures empties { OnOk result (Does L.holds (end_of self) (Empties self at key)
+            tx.old.attempts.caller tx.new.attempts.caller) }
+    {
+        let held = tx.get(self.key_at(at))?;
+        if !is_key(key, held) {
+            return Ok(());
+        }
+        tx.set(self.key_at(at), None)?;
+        Ok(())
+    }
+
+    // At how many places keys of this home are looked for.
+    fn reach<L: Law>(self, tx: &mut Tx<'_, L>, home: u32) -> Result<u32, Stop>
+        requires { home < self.cells.capacity }
+        ensures keeps { Keeps tx.old.attempts.caller tx.new.attempts.caller }
+        ensures notes { Notes L.holds (noting tx.old) (noting tx.new) }
+        ensures stops { IfErr result (λ stop. Stops (end_of self) false tx.old.attempts.caller stop.why) }
+        ensures most { IfOk result (λ reach. reach ≤ self.cells.capacity) }
+        ensures reaches { IfOk result (λ reach. Does L.holds (end_of self) (Reaches self home reach)
+            tx.old.attempts.caller tx.new.attempts.caller) }
+    {
+        let told = tx.get(self.reach_at(home))?;
+        if told < u64::from(self.cells.capacity) {
+            Ok(told as u32)
+        } else {
+            Ok(self.cells.capacity)
+        }
+    }
+
+    // The place from which on a key is looked for.
+    fn home(self, key: u64) -> u32
+        ensures home { result ≡ home_in self.cells.capacity key }
+        ensures within { result < self.cells.capacity }
+    {
+        let mixed = key.wrapping_mul(11_400_714_819_323_198_485) / 4_294_967_296;
+        (mixed % u64::from(self.cells.capacity)) as u32
+    }
+
+    // The place so many behind this one, in a circle.
+    fn behind(self, home: u32, passed: u32) -> u32
+        requires home { home < self.cells.capacity }
+        requires passed { passed < self.cells.capacity }
+        ensures behind { result ≡ behind self.cells.capacity home passed }
+        ensures within { result < self.cells.capacity }
+    {
+        if home + passed < self.cells.capacity {
+            home + passed
+        } else {
+            home + passed - self.cells.capacity
+        }
+    }
+
+    // Whether a place is free for keys of this home.
+    fn is_free(self, home: u32, beyond: bool, held: Option<u64>) -> bool
+        ensures { result ≡ is_free (home_in self.cells.capacity) home beyond held }
+    {
+        match held {
+            Some(held) => beyond && self.home(held) == home,
+            None => true,
+        }
+    }
+
+    // The cell that tells at how many places keys of this home are looked for.
+    fn reach_at(self, home: u32) -> Cell<u64>
+        requires { home < self.cells.capacity }
+        ensures { result.object ≡ self.cells.first + home }
+    {
+        cell(self.cells.first + home)
+    }
+
+    // The cell that tells the key of a place.
+    fn key_at(self, at: u32) -> Cell<Option<u64>>
+        requires { at < self.cells.capacity }
+        ensures { result.object ≡ self.cells.first + self.cells.capacity + at }
+    {
+        cell(self.cells.first + self.cells.capacity + at)
+    }
+
+    // The cell that holds the value of a place.
+    fn value_at(self, at: u32) -> Cell<V>
+        requires { at < self.cells.capacity }
+        ensures { result.object ≡ self.cells.first + 2 * self.cells.capacity + at }
+    {
+        cell(self.cells.first + 2 * self.cells.capacity + at)
+    }
+}
+
+// Whether a place holds this key.
+fn is_key(key: u64, held: Option<u64>) -> bool
+    ensures { result ≡ is_key key held }
+{
+    match held {
+        Some(held) => held == key,
+        None => false,
+    }
+}
