@@ -293,20 +293,21 @@ fn few_objects_of_a_large_tree_are_opened(rt: HostRuntime) -> Result<(), Fail> {
         ..NOTHING
     };
     let mut mem = opened(rt.alloc(), &layout)?;
-    // An operation, and how many objects it opens at most for reading and for writing.
-    let rows = [
-        (Kind::Insert, 37, 23, 25),
-        (Kind::Insert, 2, 21, 0),
-        (Kind::Member, 5, 21, 0),
-        (Kind::Get, 7, 21, 0),
-        (Kind::Put, 10, 21, 1),
-        (Kind::Remove, 101, 28, 12),
-        (Kind::Remove, 4, 1, 0),
-    ];
-    for (kind, leap, reads, writes) in rows {
-        let ops = on_all_keys(rt.alloc(), kind, leap)?;
-        assert!(rt; opens_at_most(&mut mem, &layout, &ops, reads, writes));
-    }
+    let alloc = rt.alloc();
+    let ops = on_all_keys(alloc, Kind::Insert, 37)?;
+    assert!(rt; opens_at_most(&mut mem, &layout, &ops, 23, 25));
+    let ops = on_all_keys(alloc, Kind::Insert, 2)?;
+    assert!(rt; opens_at_most(&mut mem, &layout, &ops, 21, 0));
+    let ops = on_all_keys(alloc, Kind::Member, 5)?;
+    assert!(rt; opens_at_most(&mut mem, &layout, &ops, 21, 0));
+    let ops = on_all_keys(alloc, Kind::Get, 7)?;
+    assert!(rt; opens_at_most(&mut mem, &layout, &ops, 21, 0));
+    let ops = on_all_keys(alloc, Kind::Put, 10)?;
+    assert!(rt; opens_at_most(&mut mem, &layout, &ops, 21, 1));
+    let ops = on_all_keys(alloc, Kind::Remove, 101)?;
+    assert!(rt; opens_at_most(&mut mem, &layout, &ops, 28, 12));
+    let ops = on_all_keys(alloc, Kind::Remove, 4)?;
+    assert!(rt; opens_at_most(&mut mem, &layout, &ops, 1, 0));
     Ok(())
 }
 
