@@ -8,12 +8,12 @@ import tempfile
 from pathlib import Path
 
 HERE = Path(__file__).resolve().parent
-FLAGS = ["-std=c++17", "-O2", "-march=x86-64-v2"]  # bench_engine is compiled for x86-64-v2
+FLAGS = ["-std=c++17", "-O2", "-march=x86-64-v2"]  # bench is compiled for x86-64-v2
 
 
 def times_of(program, manager):
     """Runs a program, and answers what it tells of each size of a table."""
-    said = subprocess.run([program, manager], check=True, capture_output=True, text=True).stdout
+    said = subprocess.run([*program, manager], check=True, capture_output=True, text=True).stdout
     names, *rows = [line.split() for line in said.splitlines()]
     return {int(row[0]): dict(zip(names, map(float, row))) for row in rows}
 
@@ -47,7 +47,7 @@ def tell(manager, least):
 
 def main():
     reader = argparse.ArgumentParser(description=__doc__)
-    reader.add_argument("--program", default=str(HERE.parent / "crates/bench_engine/out/bench_engine"))
+    reader.add_argument("--program", default=str(HERE.parent / "crates/bench/out/bench"))
     reader.add_argument("--managers", default="polite,karma,polka,greedy")
     reader.add_argument("--rounds", type=int, default=20)
     reader.add_argument("--processor", type=int, default=0, help="the one that the programs run on")
@@ -57,7 +57,8 @@ def main():
     with tempfile.TemporaryDirectory(prefix="dstm-bench-") as folder:
         steps = f"{folder}/steps"
         subprocess.run(["g++", *FLAGS, HERE / "steps.cc", "-o", steps], check=True)
-        programs = {"engine": given.program, "steps": steps, **dict(other.split("=", 1) for other in given.also)}
+        programs = {"engine": [given.program, "engine"], "steps": [steps]}
+        programs.update({name: [path] for name, path in (other.split("=", 1) for other in given.also)})
         print(f"load average {os.getloadavg()[0]:.1f}, least of {given.rounds} runs, in ns: " + ", ".join(programs))
         print("| manager | objects | open for reading | for writing | begin and commit | begin and Quit |")
         print("|---|---|---|---|---|---|")

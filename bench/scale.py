@@ -1,6 +1,6 @@
 #!/usr/bin/env python3
-"""Measures long transactions on 1, 2 and 4 threads by both engines, beside a mutex and beside transactions of the compiler;
-see README.md."""
+"""Measures long transactions and transactions over cells on 1, 2 and 4 threads by both engines, beside a mutex and beside
+transactions of the compiler; see README.md."""
 import argparse
 import json
 import os
@@ -12,8 +12,10 @@ from pathlib import Path
 from statistics import median
 
 HERE = Path(__file__).resolve().parent
-FLAGS = ["g++", "-std=c++17", "-O2", "-march=x86-64-v2"]  # bench_scale is compiled for x86-64-v2
+FLAGS = ["g++", "-std=c++17", "-O2", "-march=x86-64-v2"]  # bench is compiled for x86-64-v2
 LOADS = "readers256,readers4096,tree90,tree98,tree100,lists,reserve,own"
+CELLS = {"disjoint": 60000, "one": 60000, "bank": 60000, "reads": 40000}  # with the transactions of each
+BY = {"dstm": "polka", "tl2": "tl2"}
 THREADS = ("1", "2", "4")
 PEERS = {"serial": [], "mutex": ["-DMUTEX", "-pthread"], "transactions": ["-DTRANSACTIONS", "-fgnu-tm", "-pthread"]}
 PROTOTYPES = {"proto": ("scale_proto.cc", ["-DPAUSE", "-DRYE=64", "-DEPOCH"], ["--zero", "copy"]),
@@ -34,20 +36,20 @@ def build(folder, prototypes):
 
 
 def numbers(words, settings=None, source=None):
-    """What a program tells: names and numbers in turn."""
+    """What a program tells: names and numbers in turn, or one number."""
     with open(source or os.devnull) as text:
         environment = {**os.environ, **(settings or {})}
         done = subprocess.run(words, stdin=text, capture_output=True, text=True, env=environment)
     if done.returncode:
         raise RuntimeError(f"{' '.join(map(str, words))}: {done.stderr.strip()}")
     fields = done.stdout.split()
-    return dict(zip(fields[::2], map(int, fields[1::2])))
+    return float(fields[0]) if len(fields) == 1 else dict(zip(fields[::2], map(int, fields[1::2])))
 
 
-def programs_of(given, folder, prototypes, load, threads):
+def store_programs(given, folder, prototypes, load, threads):
     """Of each program what tells its milliseconds."""
     def engine(name):
-        told = numbers([given.scale, name, load, threads])
+        told = numbers([given.bench, "scale", BY[name], load, threads])
         if told["left"]:
             raise RuntimeError(f"{name} left {told['left']} transactions of {load}")
         return told["run"] / 1e6
@@ -63,11 +65,23 @@ def programs_of(given, folder, prototypes, load, threads):
     yield "tl2", lambda: engine("tl2")
     for name in prototypes:
         yield name, lambda name=name: prototype(name)
+    yield from peers(folder, load, threads, "run", 1e6)
+
+
+def cell_programs(given, folder, kind, threads):
+    """The same in nanoseconds for each transaction."""
+    for name in ("dstm", "tl2"):
+        yield name, lambda name=name: numbers([given.bench, "cells", BY[name], kind, threads])
+    yield from peers(folder, kind, threads, "span", CELLS[kind])
+
+
+def peers(folder, load, threads, measure, unit):
     for name in ("serial", "mutex") if threads == "1" else ("mutex",):
-        yield name, lambda name=name: numbers([folder / name, load, threads])["run"] / 1e6
+        yield name, lambda name=name: numbers([folder / name, load, threads])[measure] / unit
     for method in ("ml_wt", "gl_wt"):
         settings = {"ITM_DEFAULT_METHOD": method}
-        yield method, lambda settings=settings: numbers([folder / "transactions", load, threads], settings)["run"] / 1e6
+        words = [folder / "transactions", load, threads]
+        yield method, lambda words=words, settings=settings: numbers(words, settings)[measure] / unit
 
 
 def times_of(runs, rounds, seconds):
@@ -85,21 +99,22 @@ def times_of(runs, rounds, seconds):
     return times, rounds
 
 
-def table(loads, names, least):
-    print("\n| load | threads | " + " | ".join(names) + " |\n|---|---|" + "---|" * len(names))
-    for load in loads:
+def table(title, kinds, names, least):
+    print(f"\n| {title} | threads | " + " | ".join(names) + " |\n|---|---|" + "---|" * len(names))
+    for kind in kinds:
         for threads in THREADS:
             cells = []
             for name in names:
-                it, alone = least.get((load, threads, name)), least.get((load, "1", name))
+                it, alone = least.get((kind, threads, name)), least.get((kind, "1", name))
                 cells.append("-" if it is None else f"{it:.1f}" + (f" ({alone / it:.2f})" if alone else ""))
-            print(f"| {load} | {threads} | " + " | ".join(cells) + " |")
+            print(f"| {kind} | {threads} | " + " | ".join(cells) + " |")
 
 
 def main():
     reader = argparse.ArgumentParser(description=__doc__)
-    reader.add_argument("--scale", default=HERE.parent / "crates/bench_scale/out/bench_scale", metavar="PATH")
+    reader.add_argument("--bench", default=HERE.parent / "crates/bench/out/bench", metavar="PATH")
     reader.add_argument("--loads", default=LOADS)
+    reader.add_argument("--kinds", default=",".join(CELLS), help="the loads over cells")
     reader.add_argument("--rounds", type=int, default=9)
     reader.add_argument("--median", action="store_true", help="tell medians in place of the least")
     reader.add_argument("--raw", metavar="FILE", help="where all times are to be written")
@@ -107,13 +122,15 @@ def main():
     reader.add_argument("--prototypes", action="append", default=[], metavar="FOLDER",
                         help="where sources of prototypes stand, or what they include; else there are no columns for them")
     given = reader.parse_args()
-    loads = given.loads.split(",")
+    loads, kinds = ([kind for kind in words.split(",") if kind] for words in (given.loads, given.kinds))
     with tempfile.TemporaryDirectory(prefix="dstm-bench-") as made:
         folder, runs = Path(made), {}
         found = build(folder, given.prototypes)
         for threads in THREADS:
             for load in loads:
-                runs.update({(load, threads, name): it for name, it in programs_of(given, folder, found, load, threads)})
+                runs.update({(load, threads, name): it for name, it in store_programs(given, folder, found, load, threads)})
+            for kind in kinds:
+                runs.update({(kind, threads, name): it for name, it in cell_programs(given, folder, kind, threads)})
         times, rounds = times_of(runs, given.rounds, given.seconds)
     least = {at: (median if given.median else min)(them) for at, them in times.items()}
     told = "median" if given.median else "least"
@@ -122,7 +139,9 @@ def main():
         Path(given.raw).write_text(json.dumps([[*at, *them] for at, them in times.items()]))
     print("milliseconds of the threads, and in brackets how many times as fast as one thread")
     names = ("dstm", "proto", "tl2", "proto_tl2", "serial", "mutex", "ml_wt", "gl_wt")
-    table(loads, [name for name in names if name in found or name not in PROTOTYPES], least)
+    table("load", loads, [name for name in names if name in found or name not in PROTOTYPES], least)
+    print("\nnanoseconds of the threads for each transaction, and in brackets the same")
+    table("cells", kinds, ("dstm", "tl2", "mutex", "ml_wt", "gl_wt"), least)
 
 
 if __name__ == "__main__":

@@ -1,10 +1,12 @@
-// What bench_scale is measured against, over plain words: the same transactions, drawn alike.
+// What `bench scale` and `bench cells` are measured against, over plain words: the same transactions, drawn alike.
 //   g++ -std=c++17 -O2 scale_peer.cc                            one thread
 //   g++ -std=c++17 -O2 -DTRANSACTIONS -fgnu-tm -pthread         a thread for each worker, in transactions of the compiler
 //   g++ -std=c++17 -O2 -DMUTEX -pthread                         a thread for each worker, under one lock of the system
-// scale_peer LOAD THREADS tells the nanoseconds of the threads, from before they are made to their end. With a third word it
-// writes the load, for prototypes that read it as 32-bit words.
+// scale_peer LOAD THREADS tells the nanoseconds of the threads, from before they are made to their end, and from the first that
+// begins to the last that ends. The first program writes the load with a third word, for prototypes that read it as 32-bit
+// words.
 #include "store.h"
+#include <algorithm>
 #include <chrono>
 #include <cstdio>
 #include <cstdlib>
@@ -16,6 +18,7 @@
 
 enum Kind : uint32_t { Transfer, Balance, Total, Member, Insert, Remove, Chain, ChainChange, Range };
 struct Step { uint32_t kind, first, second, number; };
+static uint64_t words[8192];
 static std::string load;
 static uint32_t threads;
 
@@ -32,7 +35,7 @@ static long long now() {
   return std::chrono::duration_cast<std::chrono::nanoseconds>(std::chrono::steady_clock::now().time_since_epoch()).count();
 }
 
-// A random word for a place of a transaction, as bench_scale draws it.
+// A random word for a place of a transaction, as `bench scale` draws it.
 static uint64_t draw(uint32_t thread, uint32_t number, uint32_t place) {
   uint64_t word = (((uint64_t(thread) << 32) ^ (uint64_t(number) << 8)) + place) * 0x9E3779B97F4A7C15ull;
   word = (word ^ (word >> 30)) * 0xBF58476D1CE4E5B9ull;
@@ -106,6 +109,35 @@ static uint64_t run_store(uint32_t thread, uint32_t count) {
   return sum;
 }
 
+static uint32_t below(uint64_t &seed, uint32_t limit) {
+  seed = seed * 6364136223846793005ull + 1442695040888963407ull;
+  return (seed >> 33) % limit;
+}
+
+// What `bench cells` does with cells, with words.
+static uint64_t run_words(uint32_t thread, uint32_t count) {
+  uint64_t seed = thread, total = 0;
+  for (uint32_t i = 0; i < count; i++) {
+    if (is("disjoint")) {
+      uint32_t first = 2048 * thread + below(seed, 1024), second = 2048 * thread + below(seed, 1024);
+      ATOMIC { words[first]++; words[second]--; }
+    } else if (is("one")) {
+      ATOMIC { words[0]++; }
+    } else if (is("bank")) {
+      uint32_t source = below(seed, 16), target = (source + 1 + below(seed, 15)) % 16;
+      ATOMIC { if (words[source] > 0) { words[source]--; words[target]++; } }
+    } else {
+      bool writes = below(seed, 50) == 0;
+      uint32_t places[16];
+      for (uint32_t &place : places) place = below(seed, 1024);
+      uint64_t sum = 0;
+      ATOMIC { sum = 0; for (uint32_t place : places) sum += words[place]; if (writes) words[places[15]]++; }
+      total += sum;
+    }
+  }
+  return total;
+}
+
 static void put(uint32_t word) { fwrite(&word, 4, 1, stdout); }
 
 // How many accounts, keys, nodes, threads, insertions and transactions, and how many locators DSTM is to have; the keys; and
@@ -126,13 +158,20 @@ static void write(uint32_t count) {
 int main(int count, char **given) {
   if (count < 3) return 2;
   load = given[1], threads = atoi(given[2]);
-  uint32_t each = transactions() / threads;
+  bool of_cells = is("disjoint") || is("one") || is("bank") || is("reads");
+  uint32_t each = (of_cells ? is("reads") ? 40000 : 60000 : transactions()) / threads;
   if (count > 3) return write(each), 0;
   open_store(4096, 1000000, 0, 65535);
   for (uint32_t i = 0; i < 32767; i++) tree_insert(i * 12347 % 32768 * 2);
+  for (uint64_t &word : words) word = 1000000;
+  std::vector<long long> began(16 * threads), ended(16 * threads);
   std::vector<uint64_t> sums(16 * threads);
-  auto go = [&](uint32_t thread) { sums[16 * thread] = run_store(thread, each); };
-  long long start = now();
+  auto go = [&](uint32_t thread) {
+    began[16 * thread] = now();
+    sums[16 * thread] = of_cells ? run_words(thread, each) : run_store(thread, each);
+    ended[16 * thread] = now();
+  };
+  long long start = now(), first = -1ull >> 1, last = 0;
   uint64_t sum = 0;
 #if defined(TRANSACTIONS) || defined(MUTEX)
   std::vector<std::thread> crew;
@@ -142,6 +181,8 @@ int main(int count, char **given) {
   for (uint32_t i = 0; i < threads; i++) go(i);
 #endif
   long long end = now();
-  for (uint32_t i = 0; i < threads; i++) sum += sums[16 * i];
-  printf("run %lld sum %llu\n", end - start, (unsigned long long)sum);
+  for (uint32_t i = 0; i < threads; i++) {
+    first = std::min(first, began[16 * i]), last = std::max(last, ended[16 * i]), sum += sums[16 * i];
+  }
+  printf("run %lld span %lld sum %llu\n", end - start, last - first, (unsigned long long)sum);
 }

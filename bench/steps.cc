@@ -1,5 +1,5 @@
 // What the atomic steps of the engine's calls take by themselves: one thread, on a table with the words of a `Stm`.
-// steps MANAGER prints what bench_engine does: for tables of 1, 100 and 10,000 objects how many of them an attempt opens, and
+// steps MANAGER prints what `bench engine` does: for tables of 1, 100 and 10,000 objects how many of them an attempt opens, and
 // the nanoseconds of an attempt that quits, of one that commits, of one that opens them for reading and commits, and of
 // one that opens them for writing and commits. The owners of the objects have committed.
 #include <algorithm>

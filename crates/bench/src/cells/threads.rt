@@ -1,0 +1,179 @@
+// Transactions over cells on threads.
+ghost use Rattle.std.specs.Prelude.{◌<◌, ◌≤◌};
+
+use dstm_cells::{Cell, Engine, GaveUp, Me, Memory};
+use dstm_model::AnyLaw;
+use std::alloc::Global;
+use std::thread::Threads;
+use std::time::{Clock, Instant};
+
+/// What a transaction does.
+#[derive(Clone, Copy, Debug, PartialEq, Eq)]
+pub enum Kind {
+    /// It adds to one cell and takes from another, of those of its thread.
+    Disjoint,
+    /// It adds to the one cell that all have.
+    One,
+    /// It moves one from a cell to another of 16.
+    Bank,
+    /// It reads 16 cells of 1,024, and one in fifty adds to one of them.
+    Reads,
+}
+
+impl Kind {
+    /// The kind of a name.
+    pub fn named(name: &str) -> Option<Kind> {
+        match name {
+            "disjoint" => Some(Kind::Disjoint),
+            "one" => Some(Kind::One),
+            "bank" => Some(Kind::Bank),
+            "reads" => Some(Kind::Reads),
+            _ => None,
+        }
+    }
+
+    fn cells(self) -> u32 {
+        match self {
+            Kind::Disjoint => 8_192,
+            Kind::One => 1,
+            Kind::Bank => 16,
+            Kind::Reads => 1_024,
+        }
+    }
+
+    // How many transactions all threads make together.
+    fn transactions(self) -> u32 {
+        if self == Kind::Reads { 40_000 } else { 60_000 }
+    }
+}
+
+/// The nanoseconds from the start of the first thread to the end of the last one, by the share of one transaction.
+pub fn time_threads<R: Threads + Clock + Sync>(
+    rt: &R,
+    alloc: Global,
+    engine: Engine,
+    kind: Kind,
+    threads: u32,
+) -> anyhow::Result<f64>
+    requires some { 0 < threads }
+    requires few { threads ≤ 4 }
+{
+    let mut memory = Memory::with_law(alloc, engine, AnyLaw);
+    let cells = memory.cells(1_000_000u64, kind.cells())?;
+    let times = memory.cells(0u64, 2 * threads)?;
+    let begun = Instant::now(rt)?;
+    let count = kind.transactions() / threads;
+    memory.run(rt, threads, |me, number| {
+        let first = since(rt, begun);
+        let mut seed = number as u64;
+        for _ in 0..count {
+            make(me, &cells, kind, (number % 4) as u32, &mut seed)?;
+        }
+        let last = since(rt, begun);
+        let place = number.wrapping_mul(2);
+        let (Some(start), Some(end)) = (times.get(place), times.get(place.wrapping_add(1))) else {
+            return Ok(());
+        };
+        me.atomically(|tx| {
+            tx.set(*start, first)?;
+            tx.set(*end, last)
+        })
+    })?;
+    let mut first = u64::MAX;
+    let mut last: u64 = 0;
+    for (place, time) in times.iter().enumerate() {
+        if place % 2 == 0 {
+            first = first.min(memory.get(*time)?);
+        } else {
+            last = last.max(memory.get(*time)?);
+        }
+    }
+    let span = u32::try_from(last.saturating_sub(first)).unwrap_or(u32::MAX);
+    Ok(f64::from(span) / f64::from(kind.transactions()))
+}
+
+fn since<C: Clock>(clock: &C, begun: Instant) -> u64 {
+    match Instant::now(clock) {
+        Ok(now) => u64::try_from(now.duration_since(begun).as_nanos()).unwrap_or(u64::MAX),
+        Err(_) => 0,
+    }
+}
+
+// Makes a transaction.
+fn make(
+    me: &mut Me<'_>,
+    cells: &[Cell<u64>],
+    kind: Kind,
+    thread: u32,
+    seed: &mut u64,
+) -> Result<(), GaveUp>
+    requires few { thread < 4 }
+{
+    match kind {
+        Kind::Disjoint => {
+            let first = pick(cells, 2_048 * thread + draw(seed, 1_024))?;
+            let second = pick(cells, 2_048 * thread + draw(seed, 1_024))?;
+            me.atomically(|tx| {
+                tx.update(first, |n| n.wrapping_add(1))?;
+                tx.update(second, |n| n.wrapping_sub(1))
+            })?;
+        }
+        Kind::One => {
+            let cell = pick(cells, 0)?;
+            me.atomically(|tx| tx.update(cell, |n| n.wrapping_add(1)))?;
+        }
+        Kind::Bank => {
+            let place = draw(seed, 16);
+            let source = pick(cells, place)?;
+            let target = pick(cells, (place + 1 + draw(seed, 15)) % 16)?;
+            me.atomically(|tx| {
+                let had = tx.get(source)?;
+                if had > 0 {
+                    tx.set(source, had - 1)?;
+                    tx.update(target, |n| n.wrapping_add(1))?;
+                }
+                Ok(())
+            })?;
+        }
+        Kind::Reads => {
+            let writes = draw(seed, 50) == 0;
+            let from = *seed;
+            for _ in 0..16 {
+                let _place = draw(seed, 1_024);
+            }
+            let first = pick(cells, 0)?;
+            me.atomically(|tx| {
+                let mut here = from;
+                let mut sum: u64 = 0;
+                let mut last = first;
+                for _ in 0..16 {
+                    last = pick(cells, draw(&mut here, 1_024)).unwrap_or(first);
+                    sum = sum.wrapping_add(tx.get(last)?);
+                }
+                if writes {
+                    tx.update(last, |n| n.wrapping_add(1))?;
+                }
+                Ok(sum)
+            })?;
+        }
+    }
+    Ok(())
+}
+
+fn pick(cells: &[Cell<u64>], place: u32) -> Result<Cell<u64>, GaveUp> {
+    match cells.get(place as usize) {
+        Some(cell) => Ok(*cell),
+        None => Err(GaveUp::Foreign),
+    }
+}
+
+// A random number below this one.
+fn draw(seed: &mut u64, below: u32) -> u32
+    requires some { 0 < below }
+    ensures { result < below }
+{
+    *seed = seed
+        .wrapping_mul(6_364_136_223_846_793_005)
+        .wrapping_add(1_442_695_040_888_963_407);
+    ((*seed >> 33) % u64::from(below)) as u32
+}

@@ -1,0 +1,34 @@
+//! `bench`: what transactions take, by the calls of the engines and as closures over cells. Without words it tells how to use
+//! it.
+#![tactic(auto)]
+
+mod cells;
+mod engine;
+mod scale;
+mod words;
+
+use std::env;
+
+fn main(rt: HostRuntime) -> anyhow::Result<()> {
+    let words: Vec<String> = env::args(&rt)?.collect(rt.alloc())?;
+    let alloc = rt.alloc();
+    let told = match words.as_slice() {
+        [_, part] => part.as_str() == "cells" && cells::tell_pairs(&rt, alloc)?,
+        [_, part, manager] => part.as_str() == "engine" && engine::tell(&rt, alloc, manager)?,
+        [_, part, by, load, threads] => match part.as_str() {
+            "cells" => cells::tell_threads(&rt, alloc, by, load, threads)?,
+            "scale" => scale::tell(&rt, alloc, by, load, threads)?,
+            _ => false,
+        },
+        _ => false,
+    };
+    if !told {
+        println!(rt; "usage: bench engine MANAGER")?;
+        println!(rt; "       bench cells")?;
+        println!(rt; "       bench cells tl2|MANAGER disjoint|one|bank|reads|nothing 1|2|4")?;
+        println!(rt; "       bench scale tl2|MANAGER LOAD 1|2|4")?;
+        println!(rt; "managers: polite karma polka greedy")?;
+        println!(rt; "loads: readers256 readers4096 tree90 tree98 tree100 lists reserve own")?;
+    }
+    Ok(())
+}

@@ -1,6 +1,0 @@
-use Rattle.bench_engine.specs.Places.{Exist}
-use Rattle.bench_engine.proofs.places.choose.Given as goal
-
--- what was chosen are objects
-abbrev pub invariant-loop-i : goal.invariant-loop-i
-invariant-loop-i l = Exist l.fn.shape l.places.items

@@ -1,7 +1,0 @@
-use Rattle.std.specs.Prelude.{All}
-use Rattle.bench_engine.specs.Places.{Exist}
-use Rattle.bench_engine.proofs.places.choose_all.Given as goal
-
--- what was chosen are objects
-abbrev pub invariant-loop-i : goal.invariant-loop-i
-invariant-loop-i l = All (λ places. Exist l.fn.shape places.items) l.lists.items

@@ -1,2 +1,0 @@
-mod Founded
-mod Sends
