@@ -88,6 +88,7 @@ fn run_worker(
         caller,
         places,
         done,
+        apart: [0; 16],
     };
     worker.run(&table, workload, &options, Some(&OpenGate));
     let Worker { caller, done, .. } = worker;
