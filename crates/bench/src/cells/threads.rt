@@ -138,22 +138,18 @@ fn make(
         Kind::Reads => {
             let writes = draw(seed, 50) == 0;
             let from = *seed;
-            for _ in 0..16 {
-                let _place = draw(seed, 1_024);
-            }
             let first = pick(cells, 0)?;
-            me.atomically(|tx| {
+            *seed = me.atomically(|tx| {
                 let mut here = from;
-                let mut sum: u64 = 0;
                 let mut last = first;
                 for _ in 0..16 {
                     last = pick(cells, draw(&mut here, 1_024)).unwrap_or(first);
-                    sum = sum.wrapping_add(tx.get(last)?);
+                    let _value = tx.get(last)?;
                 }
                 if writes {
                     tx.update(last, |n| n.wrapping_add(1))?;
                 }
-                Ok(sum)
+                Ok(here)
             })?;
         }
     }
