@@ -38,6 +38,7 @@ pub(crate) fn begin<L: Law>(
 }
 
 /// Opens an object for reading, and answers its value.
+#[inline(always)]
 pub(crate) fn read<L: Law>(
     caller: &mut Caller<L>,
     going: &mut bool,
@@ -69,6 +70,7 @@ pub(crate) fn read<L: Law>(
 }
 
 /// Opens an object for reading and writing, and answers its value.
+#[inline(always)]
 pub(crate) fn write<L: Law>(
     caller: &mut Caller<L>,
     going: &mut bool,
@@ -225,7 +227,7 @@ fn read_all<L: Law>(
 }
 
 // Whether an attempt is under way, and has such an object.
-#[inline]
+#[inline(always)]
 fn may_open<L: Law>(
     caller: &Caller<L>,
     going: bool,
