@@ -3,5 +3,6 @@ mod ByTl2
 pub mod Closed
 mod ClosedByTl2
 mod Letting
+mod Resuming
 pub mod Settling
 pub mod UnderWay

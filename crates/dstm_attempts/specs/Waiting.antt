@@ -35,6 +35,12 @@ module _ {L : Type 0} where
   pub record OpensNoMore (old new : Called L) : Type 0 where
     pub unmarked : (shape_of old).all_write ≡ false → (o : ℕ) → is_opened new o ≡ is_opened old o
 
+  -- the same by either engine; by TL2 `Opens` tells it
+  abbrev pub MarksNoMore : Caller L → Caller L → Type 0
+  MarksNoMore (Dstm old) (Dstm new) = OpensNoMore old new
+  MarksNoMore (Tl2 old) (Tl2 new) = Unit {0}
+  MarksNoMore old new = ⊥
+
   module _ (holds : L → List Val → Type 0) where
     -- an attempt that has set nothing found each of these values
     pub record FindsAll (k : Called L) (pairs : List (ℕ × Val)) : Type 0 where

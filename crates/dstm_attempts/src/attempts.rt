@@ -5,8 +5,9 @@ ghost use Rattle.dstm_attempts.specs.Attempts.{AddsNothing, Begins, Finds, Flags
 ghost use Rattle.dstm_attempts.specs.Waiting.{FindsChange, HasNoRoom, IsSpentLettingGo, LetsGo, RenewsNothing};
 ghost use Rattle.dstm_attempts.specs.declared.error.Look.TheVariants as look;
 
+use crate::calls::Calls;
+use crate::dstm::{abandon, let_go};
 use crate::error::{Look, NotOpened, Spent};
-use crate::{dstm, tl2};
 use dstm_model::{Law, Val};
 use dstm_tables::{Caller, Table};
 use std::alloc::{AllocError, Global};
@@ -116,11 +117,11 @@ impl<L: Law> Attempts<L> {
     {
         match &mut self.caller {
             Caller::Dstm(caller) => match table {
-                Table::Dstm(stm) => dstm::begin(caller, &mut self.going, stm),
+                Table::Dstm(stm) => Calls::begin(caller, &mut self.going, stm),
                 Table::Tl2(_) => unreachable!(),
             },
             Caller::Tl2(caller) => match table {
-                Table::Tl2(stm) => tl2::begin(caller, &mut self.going, stm),
+                Table::Tl2(stm) => Calls::begin(caller, &mut self.going, stm),
                 Table::Dstm(_) => unreachable!(),
             },
         }
@@ -140,11 +141,11 @@ impl<L: Law> Attempts<L> {
     {
         match &mut self.caller {
             Caller::Dstm(caller) => match table {
-                Table::Dstm(stm) => dstm::read(caller, &mut self.going, stm, object),
+                Table::Dstm(stm) => Calls::read(caller, &mut self.going, stm, object),
                 Table::Tl2(_) => unreachable!(),
             },
             Caller::Tl2(caller) => match table {
-                Table::Tl2(stm) => tl2::read(caller, &mut self.going, stm, object),
+                Table::Tl2(stm) => Calls::read(caller, &mut self.going, stm, object),
                 Table::Dstm(_) => unreachable!(),
             },
         }
@@ -167,11 +168,11 @@ impl<L: Law> Attempts<L> {
     {
         match &mut self.caller {
             Caller::Dstm(caller) => match table {
-                Table::Dstm(stm) => dstm::write(caller, &mut self.going, stm, object),
+                Table::Dstm(stm) => Calls::write(caller, &mut self.going, stm, object),
                 Table::Tl2(_) => unreachable!(),
             },
             Caller::Tl2(caller) => match table {
-                Table::Tl2(stm) => tl2::write(caller, &mut self.going, stm, object),
+                Table::Tl2(stm) => Calls::write(caller, &mut self.going, stm, object),
                 Table::Dstm(_) => unreachable!(),
             },
         }
@@ -191,11 +192,11 @@ impl<L: Law> Attempts<L> {
     {
         match &mut self.caller {
             Caller::Dstm(caller) => match table {
-                Table::Dstm(stm) => dstm::set(caller, stm, object, value),
+                Table::Dstm(stm) => Calls::set(caller, stm, object, value),
                 Table::Tl2(_) => unreachable!(),
             },
             Caller::Tl2(caller) => match table {
-                Table::Tl2(stm) => tl2::set(caller, stm, object, value),
+                Table::Tl2(stm) => Calls::set(caller, stm, object, value),
                 Table::Dstm(_) => unreachable!(),
             },
         }
@@ -212,11 +213,11 @@ impl<L: Law> Attempts<L> {
     {
         match &mut self.caller {
             Caller::Dstm(caller) => match table {
-                Table::Dstm(stm) => dstm::commit(caller, &mut self.going, stm),
+                Table::Dstm(stm) => Calls::commit(caller, &mut self.going, stm),
                 Table::Tl2(_) => unreachable!(),
             },
             Caller::Tl2(caller) => match table {
-                Table::Tl2(stm) => tl2::commit(caller, &mut self.going, stm),
+                Table::Tl2(stm) => Calls::commit(caller, &mut self.going, stm),
                 Table::Dstm(_) => unreachable!(),
             },
         }
@@ -230,7 +231,7 @@ impl<L: Law> Attempts<L> {
     {
         match &mut self.caller {
             Caller::Dstm(caller) => match table {
-                Table::Dstm(stm) => dstm::abandon(caller, &mut self.going, stm),
+                Table::Dstm(stm) => abandon(caller, &mut self.going, stm),
                 Table::Tl2(_) => unreachable!(),
             },
             Caller::Tl2(_) => {}
@@ -252,7 +253,7 @@ impl<L: Law> Attempts<L> {
     {
         match &mut self.caller {
             Caller::Dstm(caller) => match table {
-                Table::Dstm(stm) => dstm::let_go(caller, &mut self.going, stm, &mut self.values),
+                Table::Dstm(stm) => let_go(caller, &mut self.going, stm, &mut self.values),
                 Table::Tl2(_) => unreachable!(),
             },
             Caller::Tl2(_) => Ok(Look::Same),
@@ -270,11 +271,11 @@ impl<L: Law> Attempts<L> {
     {
         match &mut self.caller {
             Caller::Dstm(caller) => match table {
-                Table::Dstm(stm) => dstm::look(caller, &mut self.going, stm),
+                Table::Dstm(stm) => Calls::look(caller, &mut self.going, stm, since),
                 Table::Tl2(_) => unreachable!(),
             },
             Caller::Tl2(caller) => match table {
-                Table::Tl2(stm) => tl2::look(caller, &mut self.going, stm, since),
+                Table::Tl2(stm) => Calls::look(caller, &mut self.going, stm, since),
                 Table::Dstm(_) => unreachable!(),
             },
         }

@@ -3,6 +3,7 @@
 #![tactic(auto)]
 
 mod attempts;
+mod calls;
 mod dstm;
 mod error;
 mod tl2;

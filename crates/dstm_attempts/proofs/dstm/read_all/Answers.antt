@@ -12,7 +12,7 @@ use Rattle.dstm_attempts.proofs.dstm.read_all.Goals as goal
 pub loop-pair-preserved : goal.loop-pair-preserved
 loop-pair-preserved g c =
     let k = c.loop-pair.caller in
-    let n = c.read.new.caller in
+    let n = c.read.new.self in
     let so_far = c.loop-pair.invariant in
     let values = c.args.values.now in
     let i = c.loop-pair.pair-index in
@@ -71,7 +71,7 @@ returns-then-ne-clause-other g c h =
       last = c.loop-pair.caller;
       keeps = so_far.keeps;
       live = so_far.flags.0 so_far.going;
-      why = inl (found_other g.L.Law.holds c.loop-pair.caller c.read.new.caller
+      why = inl (found_other g.L.Law.holds c.loop-pair.caller c.read.new.self
           (get_or values i (0, record { low = 0; high = 0 })).0 c.in-Ok.found had so_far.untouched c.in-Ok.ensures.finds
           c.in-Ok.ensures.may (other_value c.in-Ok.found had (sym c.ne.ensures ∙ c.if-ne.true)));
     }
