@@ -5,6 +5,8 @@
 #[cfg(test)]
 mod generated;
 #[cfg(test)]
+mod jobs;
+#[cfg(test)]
 mod reports;
 #[cfg(test)]
 mod text;

@@ -1,46 +1,60 @@
-use dstm_model::{Item, Items, Numbers, Replies, Reply};
+use dstm_model::Reply;
 use dstm_report::*;
 use dstm_workload::read_workload;
-use std::alloc::Global;
+use std::alloc::{AllocError, Global};
 use std::test::Fail;
+
+const EVERY_LINE: &str =
+    "dstm report 3\n3 1 2.7 ok ; poor ; 42 ; true ; false ; full ; none ; never\n\
+        bank 70 130\nlist\ntree 5:8\nend 1\n";
+
+// Tells whether this is the text of a report.
+fn is_text_of(alloc: Global, text: &str, report: &Report) -> Result<bool, AllocError> {
+    let rendered = render(alloc, report)?;
+    Ok(rendered.as_slice() == text.as_bytes())
+}
+
+fn is_every_line(row: &Row) -> bool {
+    let replies = [
+        Reply::Moved,
+        Reply::Poor,
+        Reply::Number(42),
+        Reply::Yes,
+        Reply::No,
+        Reply::Full,
+        Reply::Absent,
+        Reply::Never,
+    ];
+    (row.line, row.worker, row.round, row.number) == (3, 1, 2, 7)
+        && row.replies.as_slice() == replies.as_slice()
+}
 
 #[test]
 fn every_line(rt: HostRuntime) -> Result<(), Fail> {
-    let alloc = rt.alloc();
-    let mut replies = Replies::new();
-    replies.push(Reply::Moved);
-    replies.push(Reply::Poor);
-    replies.push(Reply::Number(42));
-    replies.push(Reply::Yes);
-    replies.push(Reply::No);
-    replies.push(Reply::Full);
-    replies.push(Reply::Absent);
-    replies.push(Reply::Never);
-    let row = Row {
-        line: 3,
-        worker: 1,
-        round: 2,
-        number: 7,
-        replies,
-    };
-    let mut rows = Vec::new(alloc);
-    rows.push(row)?;
+    let report = read_report(rt.alloc(), 3, EVERY_LINE.as_bytes())?;
+    assert!(rt; (report.version, report.count) == (3, 1));
+    assert!(rt; report.rows.as_slice().len() == 1);
+    assert!(rt; report.rows.as_slice().iter().all(is_every_line));
+    assert!(rt; is_text_of(rt.alloc(), EVERY_LINE, &report)?);
+    Ok(())
+}
+
+#[test]
+fn a_report_of_nothing(rt: HostRuntime) -> Result<(), Fail> {
     let report = Report {
-        version: 3,
-        rows: Rows::from_vec(rows),
-        bank: Some(Numbers::from_vec(vec![in alloc; 70, 130]?)),
-        list: Some(Numbers::from_vec(Vec::new(alloc))),
-        tree: Some(Items::from_vec(vec![in alloc; Item { key: 5, value: 8 }]?)),
-        count: 1,
+        version: 1,
+        rows: Rows::from_vec(Vec::new(rt.alloc())),
+        bank: None,
+        list: None,
+        tree: None,
+        count: 0,
     };
-    assert_eq!(rt; report.rows.as_slice().len(), 1);
-    let text = render(alloc, &report)?;
-    let expected = "dstm report 3\n3 1 2.7 ok ; poor ; 42 ; true ; false ; full ; none ; never\n\
-            bank 70 130\nlist\ntree 5:8\nend 1\n";
-    assert_eq!(rt; text.as_slice(), expected.as_bytes());
-    let again = read_report(alloc, 3, text.as_slice())?;
-    let text = render(alloc, &again)?;
-    assert_eq!(rt; text.as_slice(), expected.as_bytes());
+    assert!(rt; is_text_of(rt.alloc(), "dstm report 1\nend 0\n", &report)?);
+    Ok(())
+}
+
+#[test]
+fn the_laws_of_reports_can_be_cited(_rt: HostRuntime) {
     read_back();
     read_where_printed();
     refused_where_none_begins();
@@ -48,7 +62,13 @@ fn every_line(rt: HostRuntime) -> Result<(), Fail> {
     line_by_line();
     balances_stay();
     lawful_is_held();
-    Ok(())
+}
+
+// Passes the first turn of a worker: the line of its job.
+fn next_line(turns: &mut Turns<'_>, worker: u32) -> Option<u64> {
+    let line = turns.first(worker)?.line;
+    turns.pass(worker);
+    Some(line)
 }
 
 #[test]
@@ -56,13 +76,16 @@ fn turns_end_in_the_order_of_each_worker(rt: HostRuntime) -> Result<(), Fail> {
     let text = b"dstm 1\nworkers 3\nbank 1 5\ntx 1 total\ntx 0 total\ntx 1 total\n".as_slice();
     let workload = read_workload(rt.alloc(), text)?;
     let mut turns = Turns::new(rt.alloc(), workload.jobs.as_slice(), workload.workers)?;
-    for (worker, line) in [(1, 4), (1, 6), (0, 5)] {
-        let first = turns.first(worker).ok_or("a job")?;
-        assert_eq!(rt; first.line, line);
-        turns.pass(worker);
-    }
-    for worker in 0..4 {
-        assert!(rt; turns.first(worker).is_none());
+    for (worker, line) in [
+        (1, Some(4)),
+        (1, Some(6)),
+        (1, None),
+        (0, Some(5)),
+        (0, None),
+        (2, None),
+        (3, None),
+    ] {
+        assert!(rt; next_line(&mut turns, worker) == line);
     }
     Ok(())
 }
@@ -114,12 +137,16 @@ fn lines_in_their_places(rt: HostRuntime) {
         (2, "dstm report 2\ntree 5:0\nend 0\n", 0),
     ];
     for (version, text, want) in table {
-        let line = match read_report(rt.alloc(), version, text.as_bytes()) {
-            Ok(_) => 0,
-            Err(ReportError::Form(line)) => line,
-            Err(ReportError::Memory(_)) => panic!(rt; "out of memory"),
-        };
-        assert_eq!(rt; line, want, "in {text:?}");
+        let line = first_line_refused(rt.alloc(), version, text);
+        assert!(rt; line == Some(want), "in {text:?}");
+    }
+}
+
+fn first_line_refused(alloc: Global, version: u32, text: &str) -> Option<u64> {
+    match read_report(alloc, version, text.as_bytes()) {
+        Ok(_) => Some(0),
+        Err(ReportError::Form(line)) => Some(line),
+        Err(ReportError::Memory(_)) => None,
     }
 }
 
@@ -162,11 +189,8 @@ fn verdicts(rt: HostRuntime) -> Result<(), Fail> {
         ("5 1 0.0 ok\n4 0 0.1 true ; ok\nbank 190 10\nend 3", 5),
     ];
     for (lines, want) in table {
-        assert_eq!(rt;
-            first_bad_line(rt.alloc(), waiting, 3, lines)?,
-            want,
-            "in {lines}"
-        );
+        let line = first_bad_line(rt.alloc(), waiting, 3, lines)?;
+        assert!(rt; line == want, "in {lines}");
     }
     Ok(())
 }
@@ -220,11 +244,8 @@ fn verdicts_of_all_versions(rt: HostRuntime) -> Result<(), Fail> {
         ),
     ];
     for (workload, version, lines, want) in table {
-        assert_eq!(rt;
-            first_bad_line(rt.alloc(), workload, version, lines)?,
-            want,
-            "in {lines}"
-        );
+        let line = first_bad_line(rt.alloc(), workload, version, lines)?;
+        assert!(rt; line == want, "in {lines}");
     }
     Ok(())
 }

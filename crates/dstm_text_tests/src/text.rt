@@ -3,34 +3,53 @@ use dstm_text::{
 };
 use std::test::Fail;
 
-#[test]
-fn texts_fall_into_lines_and_fields(rt: HostRuntime) -> Result<(), Fail> {
-    let mut lines = Lines::new(b"one  two \n\n three");
-    let first = lines.next().ok_or("a line")?;
-    assert_eq!(rt; first, b"one  two ".as_slice());
-    let mut fields = Fields::new(first);
-    assert_eq!(rt; fields.next().ok_or("a field")?, b"one".as_slice());
-    assert_eq!(rt; fields.next().ok_or("a field")?, b"two".as_slice());
-    assert!(rt; fields.next().is_none());
-    let mut pieces = Pieces::new(first, b' ');
-    assert_eq!(rt; pieces.next().ok_or("a piece")?, b"one".as_slice());
-    assert_eq!(rt; pieces.next().ok_or("a piece")?.len(), 0);
-    assert_eq!(rt; pieces.next().ok_or("a piece")?, b"two".as_slice());
-    assert_eq!(rt; pieces.next().ok_or("a piece")?.len(), 0);
-    assert!(rt; pieces.next().is_none());
-    assert_eq!(rt; lines.next().ok_or("a line")?.len(), 0);
-    assert_eq!(rt; lines.next().ok_or("a line")?, b" three".as_slice());
-    assert!(rt; lines.next().is_none());
-    let mut ended = Lines::new(b"end\n");
-    assert_eq!(rt; ended.next().ok_or("a line")?, b"end".as_slice());
-    assert!(rt; ended.next().is_none());
-    assert_eq!(rt; Lines::new(b"one\n\nthree").count(), 3);
-    Ok(())
+// Tells whether these are the lines of a text, one after the other, and it has no other.
+fn has_lines(text: &str, wanted: &[&str]) -> bool {
+    let mut lines = Lines::new(text.as_bytes());
+    for line in wanted {
+        if lines.next() != Some(line.as_bytes()) {
+            return false;
+        }
+    }
+    lines.next().is_none() && Lines::new(text.as_bytes()).count() == wanted.len() as u64
+}
+
+fn has_fields(text: &str, wanted: &[&str]) -> bool {
+    let mut fields = Fields::new(text.as_bytes());
+    for field in wanted {
+        if fields.next() != Some(field.as_bytes()) {
+            return false;
+        }
+    }
+    fields.next().is_none()
+}
+
+fn has_pieces(text: &str, wanted: &[&str]) -> bool {
+    let mut pieces = Pieces::new(text.as_bytes(), b' ');
+    for piece in wanted {
+        if pieces.next() != Some(piece.as_bytes()) {
+            return false;
+        }
+    }
+    pieces.next().is_none()
 }
 
 #[test]
-fn a_text_is_split_at_a_line(rt: HostRuntime) -> Result<(), Fail> {
-    let nothing = b"".as_slice();
+fn texts_fall_into_lines_and_fields(rt: HostRuntime) {
+    assert!(rt; has_lines("one  two \n\n three", &["one  two ", "", " three"]));
+    assert!(rt; has_lines("end\n", &["end"]));
+    assert!(rt; has_fields("one  two ", &["one", "two"]));
+    assert!(rt; has_pieces("one  two ", &["one", "", "two", ""]));
+}
+
+// Tells whether a text falls into what stands before its first line `---` and what stands behind.
+fn splits(text: &str, before: &str, behind: Option<&str>) -> bool {
+    let (front, rest) = split_at_line(text.as_bytes(), b"---");
+    front == before.as_bytes() && rest == behind.map(|behind| behind.as_bytes())
+}
+
+#[test]
+fn a_text_is_split_at_a_line(rt: HostRuntime) {
     let table = [
         ("one\n---\ntwo\n", "one\n", Some("two\n")),
         ("---\n---\n", "", Some("---\n")),
@@ -40,43 +59,35 @@ fn a_text_is_split_at_a_line(rt: HostRuntime) -> Result<(), Fail> {
         ("", "", None),
     ];
     for (text, before, behind) in table {
-        let (front, rest) = split_at_line(text.as_bytes(), b"---");
-        assert_eq!(rt; front, before.as_bytes(), "in {text:?}");
-        assert_eq!(rt; rest.is_some(), behind.is_some(), "in {text:?}");
-        let rest = rest.unwrap_or(nothing);
-        assert_eq!(rt; rest, behind.unwrap_or("").as_bytes(), "in {text:?}");
+        assert!(rt; splits(text, before, behind), "{text:?}");
     }
-    Ok(())
 }
 
 #[test]
-fn decimals_are_plain(rt: HostRuntime) -> Result<(), Fail> {
-    let greatest = b"18446744073709551615".as_slice();
+fn decimals_are_plain(rt: HostRuntime) {
     let table = [
-        (b"0".as_slice(), Ok(0)),
-        (b"70".as_slice(), Ok(70)),
-        (greatest, Ok(u64::MAX)),
-        (
-            b"18446744073709551616".as_slice(),
-            Err(DecimalError::TooLarge),
-        ),
-        (
-            b"99999999999999999999999".as_slice(),
-            Err(DecimalError::TooLarge),
-        ),
-        (b"".as_slice(), Err(DecimalError::NotPlain)),
-        (b"01".as_slice(), Err(DecimalError::NotPlain)),
-        (b"00".as_slice(), Err(DecimalError::NotPlain)),
-        (b"+1".as_slice(), Err(DecimalError::NotPlain)),
-        (b"1a".as_slice(), Err(DecimalError::NotPlain)),
+        ("0", Ok(0)),
+        ("70", Ok(70)),
+        ("18446744073709551615", Ok(u64::MAX)),
+        ("18446744073709551616", Err(DecimalError::TooLarge)),
+        ("99999999999999999999999", Err(DecimalError::TooLarge)),
+        ("", Err(DecimalError::NotPlain)),
+        ("01", Err(DecimalError::NotPlain)),
+        ("00", Err(DecimalError::NotPlain)),
+        ("+1", Err(DecimalError::NotPlain)),
+        ("1a", Err(DecimalError::NotPlain)),
     ];
     for (field, want) in table {
-        assert_eq!(rt; decimal(field), want);
+        assert!(rt; decimal(field.as_bytes()) == want, "{field:?}");
     }
+    one_spelling();
+}
+
+#[test]
+fn decimals_are_written(rt: HostRuntime) -> Result<(), Fail> {
     let mut text = Vec::new(rt.alloc());
     push_decimal(&mut text, 0)?;
     push_decimal(&mut text, u64::MAX)?;
-    assert_eq!(rt; text.as_slice(), b"018446744073709551615".as_slice());
-    one_spelling();
+    assert!(rt; text.as_slice() == b"018446744073709551615".as_slice());
     Ok(())
 }

@@ -1,5 +1,7 @@
-use dstm_model::{Cond, Op, Which};
+use crate::jobs::{expect_job, insert, transfer};
+use dstm_model::{Cond, Layout, Op, Which};
 use dstm_workload::*;
+use std::alloc::Global;
 use std::process::Abort;
 use std::test::Fail;
 
@@ -9,49 +11,50 @@ fn workloads_are_read(rt: HostRuntime) -> Result<(), Fail> {
         tx 1 transfer 0 1 9999999999999 ; total ; balance 1\n#\xff\n\
         tx 0 await tree 5 ; insert list 1048574 orelse put 5 18446744073709551615 ; get 5";
     let workload = read_workload(rt.alloc(), text)?;
-    assert_eq!(rt; workload.version, 3);
-    assert_eq!(rt; workload.workers, 2);
-    assert_eq!(rt; workload.layout.accounts, 2);
-    assert_eq!(rt; workload.layout.opening, 100);
-    assert_eq!(rt; workload.layout.list, 1);
-    assert_eq!(rt; workload.layout.tree, 7);
-    let jobs = workload.jobs.as_slice();
-    assert_eq!(rt; jobs.len(), 2);
-    assert_eq!(rt; jobs[0].line, 8);
-    assert_eq!(rt; jobs[0].worker, 1);
-    assert_eq!(rt; jobs[1].line, 10);
-    assert_eq!(rt; jobs[1].worker, 0);
-    let transfer = Op::Transfer {
-        source: 0,
-        target: 1,
-        amount: 9_999_999_999_999,
+    let layout = Layout {
+        accounts: 2,
+        opening: 100,
+        list: 1,
+        tree: 7,
     };
-    let ops = [transfer, Op::Total, Op::Balance { account: 1 }];
-    assert_eq!(rt; jobs[0].ops.as_slice(), ops.as_slice());
+    expect_head(&rt, &workload, 3, 2, layout);
+    let jobs = workload.jobs.as_slice();
+    let account = Op::Balance { account: 1 };
+    let money = [transfer(0, 1, 9_999_999_999_999), Op::Total, account];
+    expect_job(&rt, jobs, 0, (8, 1), &money);
+    expect_job(&rt, jobs, 1, (10, 0), &awaiting());
+    assert!(rt; jobs.len() == 2);
+    Ok(())
+}
+
+fn awaiting() -> [Op; 5] {
     let awaited = Cond::Key {
         which: Which::Tree,
         key: 5,
-    };
-    let insert = Op::Insert {
-        which: Which::List,
-        key: 1_048_574,
     };
     let put = Op::Put {
         key: 5,
         value: u64::MAX,
     };
-    let ops = [
+    [
         Op::Await(awaited),
-        insert,
+        insert(Which::List, 1_048_574),
         Op::OrElse,
         put,
         Op::Get { key: 5 },
-    ];
-    assert_eq!(rt; jobs[1].ops.as_slice(), ops.as_slice());
+    ]
+}
+
+fn expect_head<R: Abort>(rt: &R, workload: &Workload, version: u32, workers: u32, layout: Layout) {
+    assert!(rt; (workload.version, workload.workers) == (version, workers));
+    assert!(rt; workload.layout == layout);
+}
+
+#[test]
+fn an_empty_workload_has_one_worker(rt: HostRuntime) -> Result<(), Fail> {
     let empty = read_workload(rt.alloc(), b"dstm 1")?;
-    assert_eq!(rt; empty.workers, 1);
-    assert_eq!(rt; empty.jobs.as_slice().len(), 0);
-    first_refusal();
+    expect_head(&rt, &empty, 1, 1, Layout::default());
+    assert!(rt; empty.jobs.as_slice().is_empty());
     Ok(())
 }
 
@@ -178,54 +181,60 @@ fn transactions_are_counted(rt: HostRuntime) -> Result<(), Fail> {
         text.extend_from_slice(b"tx 0 total\n")?;
     }
     let workload = read_workload(rt.alloc(), text.as_slice())?;
-    assert_eq!(rt; workload.jobs.as_slice().len(), MAX_JOBS);
+    assert!(rt; workload.jobs.as_slice().len() == MAX_JOBS);
     text.extend_from_slice(b"tx")?;
     expect_refused(&rt, text.as_slice(), 20_003, Why::TooMany);
     Ok(())
 }
 
+// Tells whether this is written of the workload that a text stands for.
+fn is_written(alloc: Global, text: &str, want: &str) -> Result<bool, Fail> {
+    let workload = read_workload(alloc, text.as_bytes())?;
+    let written = write_workload(alloc, &workload)?;
+    Ok(written.as_slice() == want.as_bytes())
+}
+
 #[test]
 fn workloads_are_written(rt: HostRuntime) -> Result<(), Fail> {
-    // Texts, and what is written of the workloads that they stand for.
     let table = [
         (
-            b"dstm 1\nbank 2 100\ntx 0 transfer 0 1 80 ; transfer 0 1 80".as_slice(),
-            b"dstm 1\nworkers 1\nbank 2 100\ntx 0 transfer 0 1 80 ; transfer 0 1 80\n".as_slice(),
+            "dstm 1\nbank 2 100\ntx 0 transfer 0 1 80 ; transfer 0 1 80",
+            "dstm 1\nworkers 1\nbank 2 100\ntx 0 transfer 0 1 80 ; transfer 0 1 80\n",
         ),
-        (b"dstm 2".as_slice(), b"dstm 2\nworkers 1\n".as_slice()),
+        ("dstm 2", "dstm 2\nworkers 1\n"),
         (
-            b"dstm 3\ntree 7\nlist 1\nbank 1 0\nworkers 2\n\n\
+            "dstm 3\ntree 7\nlist 1\nbank 1 0\nworkers 2\n\n\
                 tx 1  await  tree 5 ; insert list 0 orelse put 5 18446744073709551615 ; get 5\n\
-                tx 0 await balance 0 9 orelse total ; member tree 1 ; remove list 2"
-                .as_slice(),
-            b"dstm 3\nworkers 2\nbank 1 0\nlist 1\ntree 7\n\
+                tx 0 await balance 0 9 orelse total ; member tree 1 ; remove list 2",
+            "dstm 3\nworkers 2\nbank 1 0\nlist 1\ntree 7\n\
                 tx 1 await tree 5 ; insert list 0 orelse put 5 18446744073709551615 ; get 5\n\
-                tx 0 await balance 0 9 orelse total ; member tree 1 ; remove list 2\n"
-                .as_slice(),
+                tx 0 await balance 0 9 orelse total ; member tree 1 ; remove list 2\n",
         ),
     ];
     for (text, want) in table {
-        let workload = read_workload(rt.alloc(), text)?;
-        let written = write_workload(rt.alloc(), &workload)?;
-        assert_eq!(rt; written.as_slice(), want);
+        assert!(rt; is_written(rt.alloc(), text, want)?, "{text:?}");
     }
-    read_back();
-    before_a_mark();
-    operations_by_fields();
     Ok(())
 }
 
 #[test]
+fn the_laws_of_workloads_can_be_cited(_rt: HostRuntime) {
+    first_refusal();
+    read_back();
+    before_a_mark();
+    operations_by_fields();
+}
+
+#[test]
 fn reasons_are_printed(rt: HostRuntime) {
-    assert_eq!(rt; Why::OutOfRange.text(), b"out of range".as_slice());
-    assert_eq!(rt; Why::TooMany.text(), b"too many".as_slice());
+    assert!(rt; Why::OutOfRange.text() == b"out of range".as_slice());
+    assert!(rt; Why::TooMany.text() == b"too many".as_slice());
 }
 
 fn expect_refused<R: Abort + AllocGlobal>(rt: &R, text: &[u8], line: u64, why: Why) {
     match read_workload(rt.alloc(), text) {
         Err(WorkloadError::Refused(refused)) => {
-            assert_eq!(rt; refused.line, line, "{text:?}");
-            assert_eq!(rt; refused.why, why, "{text:?}");
+            assert!(rt; refused == Refused { line, why }, "{text:?}: {refused:?}");
         }
         _ => panic!(rt; "not refused: {text:?}"),
     }
