@@ -11,6 +11,8 @@ use Rattle.dstm_cells.specs.declared.error.Failed.{Failed}
 use Rattle.dstm_cells.specs.declared.error.Failed.TheVariants as failed
 use Rattle.dstm_cells.specs.declared.error.GaveUp.{GaveUp}
 use Rattle.dstm_cells.specs.declared.memory.Seat.{Seat}
+use Rattle.dstm_cells.specs.declared.thread.Part.{Part}
+use Rattle.dstm_cells.specs.declared.under_way.Tx.{Tx}
 use Rattle.dstm_model.specs.declared.value.Law.{Ghosts}
 use Rattle.dstm_model.specs.declared.value.Val.{Val}
 use Rattle.dstm_engine.specs.Tables as dstm
@@ -25,7 +27,7 @@ use Rattle.dstm_tables.specs.declared.tables.Caller.TheVariants as caller
 use Rattle.dstm_tables.specs.declared.tables.Table.{Table}
 use Rattle.dstm_cells.specs.Attempts.{CouldNotRead}
 use Rattle.dstm_cells.specs.Cells.{Founds, ReadsAll, Takes}
-use Rattle.dstm_cells.specs.Runs.{AnswerEach, End, EndsSo, FailsByFirst, FailsFor, HaveAnswered, IsFirst, IsFirstOf, LeavesBy, OnItsTable, Ran, WasCalled, WasUnread}
+use Rattle.dstm_cells.specs.Runs.{AnswerEach, End, EndsSo, FailsByFirst, FailsFor, HaveAnswered, IsFirst, IsFirstOf, LeavesBy, OnItsTable, Ran, RanOn, WasCalled, WasUnread}
 
 -- a vector that was lent as a slice has what was left there, in the same number
 pub lent_back : {X : Type 0} {n count : ℕ} {new whole : List X} (old : List X) → length old ≡ count →
@@ -99,16 +101,6 @@ module _ {L : Type 0} {ghosts : Ghosts L} (seats : List (Seat L ghosts)) where
         OnOk answer ((number : ℕ) → number < threads → ended number (Ok tt)) × IfErr answer (FailsFor ended unread threads)
     told unread (Ok x) well first = (all_ended well, tt)
     told unread (Err why) well first = (tt, first_ended unread why first)
-
-  -- what it answers, from how the threads of these seats have ended
-  pub tells_ends : (left : List (Seat L ghosts)) (threads : ℕ) → (seats ≡ left) × (length seats ≡ threads) →
-      (other : Seat L ghosts) (answer : Result (Unit {0}) Failed) →
-      OnOk answer (All (λ (seat : Seat L ghosts). seat.ended ≡ Ok tt) seats) → IfErr answer (IsFirst seats) →
-      OnOk answer ((number : ℕ) → number < threads → (slice_index_or left number other).ended ≡ Ok tt)
-      × FailsByFirst (λ number. (slice_index_or left number other).ended) threads answer
-  tells_ends left threads same other answer well first =
-      told left threads same (λ number end. (slice_index_or left number other).ended ≡ end) other (λ number below. refl) ⊥ answer
-      well first
 
 -- ---- where a run hands back what its threads have answered
 
@@ -267,3 +259,34 @@ untaken_leaves {X = X} ran same (Err e) why is (inl memory) left =
     subst (λ w. LeavesBy {X = X} ran same (Err w)) (sym (is ∙ memory)) left
 untaken_leaves {X = X} ran same (Err e) why is (inr unread) left =
     subst (λ w. LeavesBy {X = X} ran same (Err w)) (sym (is ∙ unread)) left
+
+-- what failed has left the same, whatever was to be answered
+pub failed_leaves : (X Y ran same : Type 0) (why : Failed) → LeavesBy {X = X} ran same (Err why) →
+    LeavesBy {X = Y} ran same (Err why)
+failed_leaves X Y ran same failed.Full left = left
+failed_leaves X Y ran same failed.Memory left = left
+failed_leaves X Y ran same failed.Threads left = left
+failed_leaves X Y ran same (failed.GaveUp why) left = left
+failed_leaves X Y ran same failed.Unread left = left
+failed_leaves X Y ran same failed.Foreign left = left
+
+-- there is one answer where nothing is answered
+pub answers_nothing : (x : Unit {0}) → x ≡ tt
+answers_nothing x = refl
+
+module _ {L F T : Type 0} {ghosts : Ghosts L} (holds : L → List Val → Type 0)
+    (g : Shared F (MutBor (Part (Tx L ghosts)) × (ℕ × Unit {0})) (End T × (MutBor (Part (Tx L ghosts)) × Unit {0}))) (f : F)
+    (engine : Engine) (rule : L) (values : List Val) (threads : ℕ) (after : List Val) where
+  -- what follows from what is told of its ends is told of them too
+  pub tells_more : {told more : (ℕ → End T) → Type 0} → ((ends : ℕ → End T) → told ends → more ends) →
+      RanOn holds g f engine rule values threads after told → RanOn holds g f engine rule values threads after more
+  tells_more follows ran = record {
+    table = ran.table;
+    starts = ran.starts;
+    works = ran.works;
+    ends = ran.ends;
+    called = ran.called;
+    tells = follows ran.ends ran.tells;
+    left = ran.left;
+    takes = ran.takes;
+  }

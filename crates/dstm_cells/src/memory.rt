@@ -2,7 +2,7 @@
 ghost use Rattle.std.specs.Prelude.{◌≡◌, ◌⊎◌, ◌↔◌, ◌+◌, ◌<◌, ◌≤◌, ℕ, [], length, slice_index_or, vec_capacity, All, Ok, Err, IfErr, IfOk, OnOk};
 ghost use Rattle.dstm_cells.specs.Attempts.{CouldNotRead};
 ghost use Rattle.dstm_cells.specs.Cells.{Adds, AddsAll, AreNamed, Founds, IsFor, LeavesUnread, ReadsAll, Takes};
-ghost use Rattle.dstm_cells.specs.Runs.{AnswerEach, AreNumbered, CalledFor, FailsByFirst, FailsFor, HaveAnswered, HaveNew, IsCalled, IsFirst, IsFirstOf, LeavesBy, Ran, RanOn, WasCalled, WasUnread};
+ghost use Rattle.dstm_cells.specs.Runs.{AnswerEach, AreNumbered, CalledFor, FailsByFirst, FailsFor, HaveAnswered, HaveNew, IsFirst, IsFirstOf, LeavesBy, Ran, RanOn, WasCalled, WasUnread};
 ghost use Rattle.dstm_cells.specs.declared.error.Failed.TheVariants as failed;
 ghost use Rattle.dstm_model.specs.Map.{state_after, value_at};
 ghost use Rattle.dstm_tables.specs.Callers.{home_of};
@@ -320,20 +320,8 @@ impl Memory {
             self.new.values.items (λ ends. OnOk result ((number : ℕ) → number < threads → ends number ≡ Ok tt)
             × FailsByFirst ends threads result)) (self.new ≡ self.old) result }
     {
-        let (table, mut founder) = self.found(threads)?;
-        let mut reader = self.part(&table, &mut founder, 0)?;
-        let mut seats = self.seats(&table, &mut founder, threads)?;
-        for_each_mut(
-            rt,
-            &mut seats,
-            threads as usize,
-            &|number, seat: &mut Seat<'_, AnyLaw>|
-                requires { F.IsAlwaysCallable f }
-                ensures { IsCalled F.Fn f number seat.entry.now.me seat.exit.now.ended seat.exit.now.me }
-            { work(&f, seat, number) },
-        );
-        self.take_by(&mut reader)?;
-        how_all_ended(&seats)
+        self.run_each(rt, threads, f)?;
+        Ok(())
     }
 
     /// As `run`, and hands back what the closure has answered with each number, in their order. Where there is no memory for
@@ -406,16 +394,6 @@ fn how_all_ended<L: Law>(seats: &[Seat<'_, L>]) -> Result<(), Failed>
         }
     }
     Ok(())
-}
-
-// Calls the closure on a seat, and notes how it ended.
-fn work<F>(f: &F, seat: &mut Seat<'_, AnyLaw>, number: usize)
-where
-    F: Fn(&mut Me<'_>, usize) -> Result<(), GaveUp>,
-    requires callable { F.IsAlwaysCallable f.now }
-    ensures { IsCalled F.Fn f.now number seat.old.me seat.new.ended seat.new.me }
-{
-    seat.ended = f(&mut seat.me, number);
 }
 
 // Calls the closure on a seat, and hands back what it has answered.
