@@ -1,12 +1,14 @@
 -- The least of a list of numbers, as far as they were looked at; and the next numbers of shares, when one was taken.
-use Rattle.std.proofs.Common.{◌≡◌, ◌⊎◌, ℕ, suc, zero, ◌+◌, ◌<◌, ◌≤◌, nat_le, Bool, true, false, cond, List, [], ◌∷◌, length, set, Option, Some, None, refl, ap, sym, subst, ◌∙◌, inl, inr, arith, true≢false}
+use Rattle.std.proofs.Common.{◌≡◌, ◌≢◌, ◌⊎◌, min, max, ℕ, suc, zero, ◌+◌, ◌<◌, ◌≤◌, nat_le, Bool, true, false, cond, List, [], ◌∷◌, length, set, Option, Some, None, refl, ap, sym, subst, ◌∙◌, inl, inr, arith, true≢false}
 use Rattle.std.specs.Prelude.{IfSome}
 use Rattle.std.specs.List.{slice_get}
 use Rattle.std.proofs.lemmas.Bool.{cases_eq, cases_lt, cases_Bool, leb-true}
 use Rattle.std.proofs.lemmas.Bool.Decides.{leb_tells}
+use Rattle.std.proofs.lemmas.List.{get_or-set_other}
 use Rattle.std.proofs.lemmas.Option.{none-some, same_Some}
+use Rattle.dstm_crew.specs.declared.collecting.Lead.{Lead}
 use Rattle.dstm_crew.specs.declared.share.Share.{Share}
-use Rattle.dstm_crew.specs.Collecting.{AreSpent, IsLeast, heads, lesser_of, number_at, number_in}
+use Rattle.dstm_crew.specs.Collecting.{AreSpent, IsAhead, IsLeast, bound_of, heads, lesser_of, number_at, number_in}
 
 -- ---- the least of numbers
 
@@ -111,6 +113,100 @@ least_some numbers before found all least = record {
     | inr past ↦ nothing_less found.1 (number_in numbers k) (number_past numbers k (omega (arith, all, past)))
   ];
 }
+
+-- ---- a bound of all numbers but the least
+
+-- none of the numbers before a place is below the bound, but what was found
+abbrev pub IsBoundBefore : (numbers : List (Option ℕ)) → (before : ℕ) → Option (ℕ × ℕ) → (bound : ℕ) → Type 0
+IsBoundBefore numbers before None bound = Unit {0}
+IsBoundBefore numbers before (Some found) bound =
+    (k : ℕ) → k < before → k ≢ found.0 → IfSome (number_in numbers k) (λ n. bound ≤ n)
+
+weaker : (low high : ℕ) (o : Option ℕ) → low ≤ high → IfSome o (λ n. high ≤ n) → IfSome o (λ n. low ≤ n)
+weaker low high None le bound = tt
+weaker low high (Some n) le bound = omega (arith, le, bound)
+
+pub bound_skip : (numbers : List (Option ℕ)) (place : ℕ) (found : Option (ℕ × ℕ)) (bound : ℕ) →
+    IsBoundBefore numbers place found bound → number_in numbers place ≡ None → IsBoundBefore numbers (place + 1) found bound
+bound_skip numbers place None bound below none = tt
+bound_skip numbers place (Some found) bound below none = λ k within other.
+    elim (cases_eq k place) [
+      | inl same ↦ nothing_less bound (number_in numbers k) (ap (number_in numbers) same ∙ none)
+      | inr apart ↦ below k (omega (arith, within, apart)) other
+    ]
+
+pub bound_take : (numbers : List (Option ℕ)) (place n : ℕ) (found : Option (ℕ × ℕ)) (bound : ℕ) →
+    IsLeastBefore numbers place found → IsBoundBefore numbers place found bound → number_in numbers place ≡ Some n →
+    IsBoundBefore numbers (place + 1) (lesser_of found place n) (bound_of found bound n)
+bound_take numbers place n None bound least below here = λ k within other.
+    nothing_less bound (number_in numbers k) (least k (omega (arith, within, other)))
+bound_take numbers place n (Some found) bound least below here = by (cases_Bool (nat_le found.1 n))
+  where
+    lower : ℕ
+    lower = min bound (max found.1 n)
+
+    by : (nat_le found.1 n ≡ true) ⊎ (nat_le found.1 n ≡ false) →
+        IsBoundBefore numbers (place + 1) (cond (nat_le found.1 n) (Some found) (Some (place, n))) lower
+    by (inl less) =
+        let le : found.1 ≤ n = leb-true found.1 n less in
+        subst (λ (b : Bool). IsBoundBefore numbers (place + 1) (cond b (Some found) (Some (place, n))) lower) (sym less)
+        (λ k within other.
+        elim (cases_eq k place) [
+          | inl same ↦ subst (λ (o : Option ℕ). IfSome o (λ m. lower ≤ m)) (sym (ap (number_in numbers) same ∙ here)) (omega (arith, le))
+          | inr apart ↦ weaker lower bound (number_in numbers k) (omega arith) (below k (omega (arith, within, apart)) other)
+        ])
+    by (inr more) =
+        let gt : n < found.1 = elim (leb_tells found.1 n) [ inl le ↦ absurd (true≢false (sym le.0 ∙ more)) | inr gt ↦ gt.1 ] in
+        subst (λ (b : Bool). IsBoundBefore numbers (place + 1) (cond b (Some found) (Some (place, n))) lower) (sym more)
+        (λ k within other.
+        let before : k < place = omega (arith, within, other) in
+        elim (cases_eq k found.0) [
+          | inl same ↦ subst (λ (o : Option ℕ). IfSome o (λ m. lower ≤ m)) (sym (ap (number_in numbers) same ∙ least.0)) (omega (arith, gt))
+          | inr apart ↦ weaker lower bound (number_in numbers k) (omega arith) (below k before apart)
+        ])
+
+-- all were looked at
+pub bound_all : (numbers : List (Option ℕ)) (before place bound : ℕ) → length numbers ≤ before →
+    ((k : ℕ) → k < before → k ≢ place → IfSome (number_in numbers k) (λ n. bound ≤ n)) →
+    IsAhead numbers (record { place = place; bound = bound })
+bound_all numbers before place bound all below = λ k other.
+    elim (cases_lt k before) [
+      | inl within ↦ below k within other
+      | inr past ↦ nothing_less bound (number_in numbers k) (number_past numbers k (omega (arith, all, past)))
+    ]
+
+-- ---- the lead
+
+-- there is none yet
+pub ahead_first : (numbers : List (Option ℕ)) → IsAhead numbers (record { place = 0; bound = 0 })
+ahead_first numbers k other = from_zero (number_in numbers k)
+  where
+    from_zero : (o : Option ℕ) → IfSome o (λ n. 0 ≤ n)
+    from_zero None = tt
+    from_zero (Some n) = omega arith
+
+-- its number is not above the bound
+pub lead_least : (numbers : List (Option ℕ)) (lead : Lead) (n : ℕ) → IsAhead numbers lead → number_in numbers lead.place ≡ Some n →
+    n ≤ lead.bound → IsLeast numbers lead.place
+lead_least numbers lead n ahead own le = record {
+  number = n;
+  own = own;
+  least = λ k.
+      elim (cases_eq k lead.place) [
+        | inl same ↦ subst (λ (o : Option ℕ). IfSome o (λ m. n ≤ m)) (sym (ap (number_in numbers) same ∙ own)) (omega arith)
+        | inr other ↦ weaker n lead.bound (number_in numbers k) le (ahead k other)
+      ];
+}
+
+pub lead_within : (numbers : List (Option ℕ)) (lead : Lead) (n : ℕ) → number_in numbers lead.place ≡ Some n →
+    lead.place < length numbers
+lead_within numbers lead n own = number_within numbers lead.place n own
+
+-- its own number changes
+pub ahead_set : (numbers : List (Option ℕ)) (lead : Lead) (o : Option ℕ) → IsAhead numbers lead →
+    IsAhead (set numbers lead.place o) lead
+ahead_set numbers lead o ahead = λ k other.
+    subst (λ (x : Option ℕ). IfSome x (λ n. lead.bound ≤ n)) (sym (get_or-set_other numbers lead.place k o None other)) (ahead k other)
 
 -- the place is that of a number
 pub least_within : (numbers : List (Option ℕ)) (before : ℕ) (pair : ℕ × ℕ) → IsLeastBefore numbers before (Some pair) →

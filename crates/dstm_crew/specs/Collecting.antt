@@ -1,5 +1,5 @@
 -- Private: collecting: what the workers of a parallel round have done, in the order of the numbers that the transactions drew.
-use Rattle.std.specs.Prelude.{◌≡◌, ℕ, ◌<◌, ◌≤◌, ◌==◌, nat_le, if◌then◌else◌, List, [], ◌∷◌, ◌++◌, length, map, zip, true, All, Option, Some, None, IfSome, slice_index, slice_index_or}
+use Rattle.std.specs.Prelude.{◌≡◌, ◌≢◌, min, max, ℕ, ◌<◌, ◌≤◌, ◌==◌, nat_le, if◌then◌else◌, List, [], ◌∷◌, ◌++◌, length, map, zip, true, All, Option, Some, None, IfSome, slice_index, slice_index_or}
 use Rattle.std.specs.List.{slice_get}
 use Rattle.std.specs.Option.{option_map}
 use Rattle.dstm_jobs.specs.Tables.{IsRun, Round}
@@ -16,6 +16,7 @@ use Rattle.dstm_records.specs.Rounds.{has_job, left_by}
 use Rattle.dstm_records.specs.Running.{turns_behind}
 use Rattle.dstm_records.specs.Told.{AreTold}
 use Rattle.dstm_crew.specs.Workers.{next_job}
+use Rattle.dstm_crew.specs.declared.collecting.Lead.{Lead}
 use Rattle.dstm_crew.specs.declared.share.Share.{Share}
 use Rattle.dstm_crew.specs.Shares.{AreShared}
 
@@ -55,6 +56,10 @@ pub record IsLeast (numbers : List (Option ℕ)) (place : ℕ) : Type 0 where
   pub own : number_in numbers place ≡ Some number
   pub least : (other : ℕ) → IfSome (number_in numbers other) (λ n. number ≤ n)
 
+-- no number at another place than the lead's is below the lead's bound
+abbrev pub IsAhead : (numbers : List (Option ℕ)) → Lead → Type 0
+IsAhead numbers lead = (other : ℕ) → other ≢ lead.place → IfSome (number_in numbers other) (λ n. lead.bound ≤ n)
+
 -- a list has no number
 abbrev pub AreSpent : (numbers : List (Option ℕ)) → Type 0
 AreSpent numbers = (place : ℕ) → number_in numbers place ≡ None
@@ -67,6 +72,11 @@ IsNext shares next place = IsLeast (heads shares next) place
 abbrev pub lesser_of : Option (ℕ × ℕ) → (place number : ℕ) → Option (ℕ × ℕ)
 lesser_of None place number = Some (place, number)
 lesser_of (Some found) place number = if nat_le found.1 number then Some found else Some (place, number)
+
+-- a bound of all numbers but the least, with one number more
+abbrev pub bound_of : Option (ℕ × ℕ) → (bound number : ℕ) → ℕ
+bound_of None bound number = bound
+bound_of (Some found) bound number = min bound (max found.1 number)
 
 -- nothing is left of any share
 abbrev pub AreTaken : List Share → (next : List ℕ) → Type 0

@@ -1,16 +1,25 @@
-ghost use Rattle.std.specs.Prelude.{◌≡◌, ◌<◌, ◌≤◌, ◌+◌, ◌++◌, ◌∷◌, [], List, length, vec_len, vec_capacity, IfNone, IfSome, replicate, ℕ};
+ghost use Rattle.std.specs.Prelude.{◌≡◌, ◌<◌, ◌≤◌, ◌+◌, ◌++◌, ◌∷◌, [], List, length, vec_len, vec_capacity, IfNone, IfSome, Some, replicate, slice_index, ℕ};
+ghost use Rattle.std.specs.Bool.{OnTrue};
 ghost use Rattle.dstm_jobs.specs.Tables.{Round};
 ghost use Rattle.dstm_options.specs.declared.options.Options.{Options as Choices};
-ghost use Rattle.dstm_crew.specs.Collecting.{AreRunBy, AreSpent, CanCollect, HasCollected, IsFit, IsLeast, IsRowOf, heads, lesser_of, number_at};
+ghost use Rattle.dstm_report.specs.Turns.{job_at};
+ghost use Rattle.dstm_crew.specs.Collecting.{AreRunBy, AreSpent, CanCollect, HasCollected, IsAhead, IsFit, IsLeast, IsRowOf, bound_of, heads, lesser_of, number_at, number_in};
 
 use crate::share::Share;
 use dstm_model::{Replies, Reply};
 use dstm_report::{Row, Turns};
 use dstm_workload::Workload;
 
-/// Adds a row for all that was done of the shares, in the order of the numbers: the share with the least next number goes
-/// next. There are few shares, so the next numbers of all are looked at for each row. `next` has a 0 for each share, and
-/// `numbers` room for a number of each.
+// The place of the number that comes next, and what none of the numbers at other places is below.
+#[derive(Clone, Copy)]
+struct Lead {
+    place: usize,
+    bound: u64,
+}
+
+/// Adds a row for all that was done of the shares, in the order of the numbers: the share with the least next number
+/// goes next, and goes on as long as its number is not above those of the others, which are looked at only then. `next`
+/// has a 0 for each share, and `numbers` room for a number of each.
 pub(crate) fn collect(
     workload: &Workload,
     round: u64,
@@ -31,7 +40,10 @@ pub(crate) fn collect(
 {
     let mut next = next;
     let mut numbers = note_numbers(shares, &next, numbers);
-    while let Some(least) = least_of(&numbers) {
+    let mut before = Lead { place: 0, bound: 0 };
+    while let Some(lead) = lead_of(&numbers, before) {
+        before = lead;
+        let least = lead.place;
         let share = &shares[least];
         let place = next[least];
         push_row(workload, round, share, place, rows);
@@ -54,21 +66,58 @@ fn note_numbers(shares: &[Share], next: &[usize], numbers: Vec<Option<u64>>) -> 
     numbers
 }
 
-// The place of the least of these numbers.
-fn least_of(numbers: &[Option<u64>]) -> Option<usize>
-    ensures some { IfSome result (IsLeast numbers.now) }
-    ensures within { IfSome result (λ place. place < length numbers.now) }
+// The place of the least of these numbers. Where that is the one from before, the others are not looked at.
+fn lead_of(numbers: &[Option<u64>], before: Lead) -> Option<Lead>
+    requires ahead { IsAhead numbers.now before }
+    ensures some { IfSome result (λ lead. IsLeast numbers.now lead.place) }
+    ensures ahead { IfSome result (IsAhead numbers.now) }
+    ensures within { IfSome result (λ lead. lead.place < length numbers.now) }
+    ensures none { IfNone result (AreSpent numbers.now) }
+{
+    if still_leads(numbers, before) {
+        return Some(before);
+    }
+    least_of(numbers)
+}
+
+// Whether the number at the lead's place is not above its bound.
+fn still_leads(numbers: &[Option<u64>], lead: Lead) -> bool
+    ensures { OnTrue result ((n : ℕ) × ((number_in numbers.now lead.place ≡ Some n) × (n ≤ lead.bound))) }
+{
+    match numbers.get(lead.place) {
+        Some(Some(number)) => *number <= lead.bound,
+        _ => false,
+    }
+}
+
+// The place of the least of these numbers, by looking at all.
+fn least_of(numbers: &[Option<u64>]) -> Option<Lead>
+    ensures some { IfSome result (λ lead. IsLeast numbers.now lead.place) }
+    ensures ahead { IfSome result (IsAhead numbers.now) }
+    ensures within { IfSome result (λ lead. lead.place < length numbers.now) }
     ensures none { IfNone result (AreSpent numbers.now) }
 {
     let mut least: Option<(usize, u64)> = None;
+    let mut bound = u64::MAX;
     for place in 0..numbers.len() {
         if let Some(number) = numbers[place] {
+            bound = bound_with(least, bound, number);
             least = lesser(least, place, number);
         }
     }
     match least {
-        Some((place, _)) => Some(place),
+        Some((place, _)) => Some(Lead { place, bound }),
         None => None,
+    }
+}
+
+// What none of the others is below, beside a number that was found before and this one.
+fn bound_with(found: Option<(usize, u64)>, bound: u64, number: u64) -> u64
+    ensures { result ≡ bound_of found bound number }
+{
+    match found {
+        Some((_, before)) => bound.min(before.max(number)),
+        None => bound,
     }
 }
 
@@ -98,24 +147,62 @@ fn push_row(workload: &Workload, round: u64, share: &Share, place: usize, rows: 
     ensures len { vec_len rows.new ≡ vec_len rows.old + 1 }
     ensures capacity { vec_capacity rows.new ≡ vec_capacity rows.old }
 {
-    let job = &workload.jobs.as_slice()[share.places[place]];
-    rows.push_reserved(Row {
-        line: job.line,
-        worker: share.worker,
+    let line = line_at(workload, share, place);
+    let number = number_done(share, place);
+    let last = rows.len();
+    rows.push_reserved(blank_row());
+    fill(
+        &mut rows[last],
+        line,
+        share.worker,
         round,
-        number: share.done.number(place).unwrap(),
-        replies: copy_of(share.done.replies(place)),
-    });
+        number,
+        share.done.replies(place),
+    );
 }
 
-// These replies once more.
-fn copy_of(items: &[Reply]) -> Replies
-    requires { length items.now ≤ 8 }
-    ensures { result ≡ items.now }
+// The line of the job that was done at a place.
+fn line_at(workload: &Workload, share: &Share, place: usize) -> u64
+    requires done { place < length share.now.done.items }
+    requires fit { IsFit workload.now share.now }
+    ensures { result ≡ (job_at workload.now.jobs (slice_index share.now.places.items place)).line }
 {
-    let mut copy = Replies::new();
-    for reply in items {
-        copy.push(*reply);
+    let job = &workload.jobs.as_slice()[share.places[place]];
+    job.line
+}
+
+// The number of what was done at a place.
+fn number_done(share: &Share, place: usize) -> u64
+    requires { place < length share.now.done.items }
+    ensures { Some result ≡ number_at share.now place }
+{
+    share.done.number(place).unwrap()
+}
+
+// A row that tells nothing.
+fn blank_row() -> Row
+    ensures { result.replies ≡ [] }
+{
+    Row {
+        line: 0,
+        worker: 0,
+        round: 0,
+        number: 0,
+        replies: Replies::new(),
     }
-    copy
+}
+
+// Fills a blank row, where it stands.
+fn fill(row: &mut Row, line: u64, worker: u32, round: u64, number: u64, replies: &[Reply])
+    requires none { row.old.replies ≡ [] }
+    requires short { length replies.now ≤ 8 }
+    ensures { row.new ≡ record { line = line; worker = worker; round = round; number = number; replies = replies.now } }
+{
+    row.line = line;
+    row.worker = worker;
+    row.round = round;
+    row.number = number;
+    for reply in replies {
+        row.replies.push(*reply);
+    }
 }
