@@ -172,7 +172,7 @@ fn a_look_up_hand_over_hand_is_not_overtaken(rt: HostRuntime) -> Result<(), Fail
     ) else {
         return Err(Fail::new("left"));
     };
-    assert_eq!(rt; found.as_slice(), [Reply::Yes].as_slice());
+    assert!(rt; found.as_slice() == [Reply::Yes].as_slice());
     assert!(rt; (inserted, committed) == (Some(Ok(5)), Some(Err(Again::Stale(0)))));
     let mut table = five_keys(rt.alloc(), &LAYOUT)?;
     let Some((found, inserted, committed)) = look_up_hand_over_hand(
@@ -183,7 +183,7 @@ fn a_look_up_hand_over_hand_is_not_overtaken(rt: HostRuntime) -> Result<(), Fail
     ) else {
         return Err(Fail::new("left"));
     };
-    assert_eq!(rt; found.as_slice(), [Reply::Yes].as_slice());
+    assert!(rt; found.as_slice() == [Reply::Yes].as_slice());
     assert!(rt; (inserted, committed) == (Some(Ok(5)), Some(Ok(6))));
     Ok(())
 }

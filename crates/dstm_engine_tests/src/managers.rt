@@ -34,7 +34,7 @@ fn choices(rt: HostRuntime) {
         let mut decider = Decider::make(manager, 0);
         assert!(rt; matches!(status, Active | Waiting | Validating));
         assert!(rt; round <= 1024);
-        assert_eq!(rt; decider.decide(own, enemy, status, round), choice);
+        assert!(rt; decider.decide(own, enemy, status, round) == choice);
     }
 }
 
@@ -72,10 +72,7 @@ fn first_waits(rt: HostRuntime) {
         let mut decider = Decider::make(manager, seed);
         for (round, turns) in rounds.into_iter().zip(waits) {
             assert!(rt; round <= 1024);
-            assert_eq!(rt;
-                decider.decide(0, MAX_RANK, Status::Active, round),
-                Choice::Wait(turns)
-            );
+            assert!(rt; decider.decide(0, MAX_RANK, Status::Active, round) == Choice::Wait(turns));
         }
     }
 }

@@ -39,9 +39,9 @@ fn a_caller_with_one_attempt_is_spent_after_it(rt: HostRuntime) -> Result<(), Fa
     assert!(rt; answers == (Some(Ok(0)), Some(Ok(0))));
     assert!(rt; is_spent(&mut caller, &stm));
     founder.retire(&stm, caller);
-    assert_eq!(rt; founder.out(), 0);
+    assert!(rt; founder.out() == 0);
     let (values, _record) = stm.close(alloc, founder)?;
-    assert_eq!(rt; values.as_slice(), [low(9)].as_slice());
+    assert!(rt; values.as_slice() == [low(9)].as_slice());
     Ok(())
 }
 
@@ -52,12 +52,12 @@ fn callers_are_given_out_and_taken_back_together(rt: HostRuntime) -> Result<(), 
     let start = vec![in alloc; low(7)]?;
     let (stm, mut founder) = Stm::make(alloc, start, small(2, Manager::Polite), AnyLaw)?;
     let callers = founder.callers(alloc, &stm, 2)?;
-    assert_eq!(rt; callers.len(), 2);
-    assert_eq!(rt; founder.out(), 2);
+    assert!(rt; callers.len() == 2);
+    assert!(rt; founder.out() == 2);
     founder.retire_all(&stm, callers);
-    assert_eq!(rt; founder.out(), 0);
+    assert!(rt; founder.out() == 0);
     let (values, _record) = stm.close(alloc, founder)?;
-    assert_eq!(rt; values.as_slice(), [low(7)].as_slice());
+    assert!(rt; values.as_slice() == [low(7)].as_slice());
     Ok(())
 }
 
@@ -75,12 +75,12 @@ fn a_guest_draws_a_number_of_its_own(rt: HostRuntime) -> Result<(), Fail> {
     let number = stm
         .words()
         .add(&mut seat, Kind::Enrol, shape.callers_place());
-    assert_eq!(rt; number, 0);
+    assert!(rt; number == 0);
     assert!(rt; founder.guest(&stm).is_none());
     founder.dismiss(&stm, seat);
-    assert_eq!(rt; founder.out(), 0);
+    assert!(rt; founder.out() == 0);
     let values = stm.close_plain(rt.alloc(), founder)?;
-    assert_eq!(rt; values.as_slice(), [five].as_slice());
+    assert!(rt; values.as_slice() == [five].as_slice());
     Ok(())
 }
 
@@ -98,8 +98,8 @@ fn an_attempt_that_opens_nothing_is_rechecked_and_commits(rt: HostRuntime) -> Re
         return Err(Fail::new("spent"));
     };
     let mut tx = tx;
-    assert_eq!(rt; tx.recheck(), Ok(()));
-    assert_eq!(rt; tx.commit(), Ok(0));
+    assert!(rt; tx.recheck() == Ok(()));
+    assert!(rt; tx.commit() == Ok(0));
     assert!(rt; !caller.is_live());
     assert!(rt; matches!(caller.begin(&stm), Err(Spent)));
     Ok(())

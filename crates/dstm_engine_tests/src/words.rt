@@ -56,13 +56,13 @@ fn one_caller(rt: HostRuntime) -> Result<(), Fail> {
     let (words, mut first) = Words::make(rt.alloc(), shape, AnyLaw, start.as_slice())?;
     let mut seat = words.split(&mut first);
     let number = enrol(&words, &shape, &mut seat);
-    assert_eq!(rt; number, 0);
+    assert!(rt; number == 0);
     let found = try_once(&words, &shape, &mut seat, number);
-    assert_eq!(rt; found.word, 0);
-    assert_eq!(rt; found.status, Ok(1));
+    assert!(rt; found.word == 0);
+    assert!(rt; found.status == Ok(1));
     words.join(&mut first, seat);
     let left = words.close(rt.alloc(), first)?;
-    assert_eq!(rt; left.as_slice(), [0, 5, 0, 0, 0, 0, 0, 1, 0, 0].as_slice());
+    assert!(rt; left.as_slice() == [0, 5, 0, 0, 0, 0, 0, 1, 0, 0].as_slice());
     Ok(())
 }
 
@@ -76,15 +76,15 @@ fn two_callers_in_turns(rt: HostRuntime) -> Result<(), Fail> {
     let mut two = words.split(&mut first);
     let second = enrol(&words, &shape, &mut two);
     let number = enrol(&words, &shape, &mut one);
-    assert_eq!(rt; (second, number), (0, 1));
+    assert!(rt; (second, number) == (0, 1));
     let found = try_once(&words, &shape, &mut one, number);
-    assert_eq!(rt; found.word, 0);
+    assert!(rt; found.word == 0);
     let found = try_once(&words, &shape, &mut two, second);
-    assert_eq!(rt; found.status, Ok(1));
+    assert!(rt; found.status == Ok(1));
     words.join(&mut first, two);
     words.join(&mut first, one);
     let left = words.close(rt.alloc(), first)?;
     let expected = [0, 5, 5, 0, 0, 0, 0, 0, 0, 0, 0, 0, 0, 2, 0, 0];
-    assert_eq!(rt; left.as_slice(), expected.as_slice());
+    assert!(rt; left.as_slice() == expected.as_slice());
     Ok(())
 }
