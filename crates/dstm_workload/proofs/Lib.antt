@@ -11,3 +11,4 @@ pub mod ReadLoop
 pub mod TextAgain
 pub mod RefusedLaws
 pub mod Before
+pub mod NumbersRead

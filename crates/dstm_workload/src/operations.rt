@@ -261,6 +261,7 @@ fn declared(there: bool) -> Result<(), Why>
     if there { Ok(()) } else { Err(Why::Undeclared) }
 }
 
+#[inline(always)]
 fn account(fields: &mut Fields<'_>, known: &Known) -> Result<u32, Why>
     ensures { IsRead result (λ n. (n, fields.new)) (operand_at 0 (most known.now Account) fields.old) }
 {
@@ -269,12 +270,14 @@ fn account(fields: &mut Fields<'_>, known: &Known) -> Result<u32, Why>
     Ok(account as u32)
 }
 
+#[inline(always)]
 fn amount(fields: &mut Fields<'_>) -> Result<u64, Why>
     ensures { IsRead result (λ n. (n, fields.new)) (operand_at 0 9999999999999 fields.old) }
 {
     operand(fields, AMOUNT_LIMIT - 1)
 }
 
+#[inline(always)]
 fn key(fields: &mut Fields<'_>) -> Result<u32, Why>
     ensures { IsRead result (λ n. (n, fields.new)) (operand_at 0 1048574 fields.old) }
 {
