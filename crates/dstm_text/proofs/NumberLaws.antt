@@ -19,7 +19,7 @@ model : IsNumeralModel (λ ds. all_ascii_digits ds ≡ true) (digits_value 10)
 model = numerals_by_value (λ ds. all_ascii_digits ds ≡ true) tells_all_ascii_digits
 
 -- the value of a digit's code
-digit_value_is : (c : ℕ) → IsInRange 48 57 c → digit_value c ≡ c - 48
+pub digit_value_is : (c : ℕ) → IsInRange 48 57 c → digit_value c ≡ c - 48
 digit_value_is c h = grind (arith, nat_tests)
 
 -- the value one digit on
@@ -58,7 +58,7 @@ plain_parts (d ∷ e ∷ ds) plain =
           (λ no. absurd (false≢true no)) (or_cases _ _ parts.1),
     )
 
-number_is : (ds : List ℕ) → is_plain ds ≡ true → number_of ds ≡ Some (digits_value 10 ds)
+pub number_is : (ds : List ℕ) → is_plain ds ≡ true → number_of ds ≡ Some (digits_value 10 ds)
 number_is ds plain = cond-true (is_plain ds) _ _ plain
 
 -- what is printed is read

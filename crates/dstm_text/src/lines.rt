@@ -1,7 +1,9 @@
-ghost use Rattle.std.specs.Prelude.{◌≡◌, ◌≢◌, ◌≤◌, ◌<◌, ◌^◌, ℕ, List, [], ◌∷◌, length, IfSome, IfNone, option_copied};
+ghost use Rattle.std.specs.Prelude.{◌≡◌, ◌≢◌, ◌≤◌, ◌<◌, ◌^◌, ℕ, List, [], ◌∷◌, length, Some, IfSome, IfNone, option_copied};
 ghost use Rattle.memchr.specs.Find.{IsFirstByte, is_byte};
 ghost use Rattle.dstm_text.specs.Lines.{pieces, pieces_left, lines_of, fields_of, space};
+ghost use Rattle.dstm_text.specs.Number.{number_of};
 
+use crate::number::number_before_space;
 use memchr::memchr;
 use std::marker::Model;
 
@@ -134,6 +136,26 @@ impl<'a> Fields<'a> {
         let behind = rest.unwrap_or(&[]);
         self.rest = behind;
         Some(field)
+    }
+
+    /// Takes the next field as the number that it spells, where it stands at the front and has few digits. Otherwise
+    /// nothing is taken.
+    #[inline(always)]
+    pub fn number(&mut self) -> Option<u64>
+        ensures some { IfSome result (λ n. (field : List ℕ)
+            × ((self.old ≡ field ∷ self.new) × (number_of field ≡ Some n))) }
+        ensures none { IfNone result (self.new ≡ self.old) }
+    {
+        let (number, end) = number_before_space(self.rest)?;
+        let place = if end < self.rest.len() {
+            Some(end)
+        } else {
+            None
+        };
+        let (_, rest) = first_piece(self.rest, b' ', place);
+        let behind = rest.unwrap_or(&[]);
+        self.rest = behind;
+        Some(number)
     }
 }
 

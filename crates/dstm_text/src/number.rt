@@ -1,9 +1,11 @@
-ghost use Rattle.std.specs.Prelude.{◌≡◌, ◌≤◌, ◌<◌, ◌+◌, ◌-◌, ◌*◌, ◌^◌, length, Some, None, IsTrue, SomeIff, if◌then◌else◌};
+ghost use Rattle.std.specs.Prelude.{slice_index, ◌≡◌, ◌≤◌, ◌<◌, ◌+◌, ◌-◌, ◌*◌, ◌^◌, length, Some, None, IsTrue, IfSome, SomeIff, if◌then◌else◌};
+ghost use Rattle.std.specs.Bool.{OnTrue};
 ghost use Rattle.std.specs.Char.{is_ascii_digit};
 ghost use Rattle.std.specs.List.{list_all};
 ghost use Rattle.std.specs.Str.{all_ascii_digits};
 ghost use Rattle.std.specs.Str.Parse.{digits_value};
-ghost use Rattle.dstm_text.specs.Number.{number_of, in_64_bits};
+ghost use Rattle.dstm_text.specs.Lines.{space};
+ghost use Rattle.dstm_text.specs.Number.{AreAtFront, StandsBeforeSpace, number_of, in_64_bits};
 
 // So many digits fit into 64 bits, whichever they are.
 const SHORT: usize = 19;
@@ -69,4 +71,58 @@ fn with_digit(number: u64, digit: u8) -> Option<u64>
     number
         .checked_mul(10)?
         .checked_add(u64::from(digit.saturating_sub(b'0')))
+}
+
+// The number at the front of a line, and where it ends: at a space, or at the line's end.
+#[inline(always)]
+pub(crate) fn number_before_space(line: &[u8]) -> Option<(u64, usize)>
+    ensures { IfSome result (λ r. StandsBeforeSpace line.now r.1 r.0) }
+{
+    let (number, end) = digits_at_front(line);
+    if !is_plain(line, end) {
+        return None;
+    }
+    if !ends_at(line, end) {
+        return None;
+    }
+    Some((number, end))
+}
+
+// The number of the digits at the front of a line, of which few are looked at, and where they end.
+#[inline(always)]
+fn digits_at_front(line: &[u8]) -> (u64, usize)
+    ensures { AreAtFront line.now result.1 result.0 }
+{
+    let most = line.len().min(SHORT);
+    let mut number = 0;
+    let mut end = 0;
+    while end < most && line[end].is_ascii_digit() {
+        number = number * 10 + u64::from(line[end] - b'0');
+        end += 1;
+    }
+    (number, end)
+}
+
+// Whether there are digits, and no needless zero before them.
+#[inline(always)]
+fn is_plain(line: &[u8], digits: usize) -> bool
+    requires { digits ≤ length line.now }
+    ensures { OnTrue result ((0 < digits) × (slice_index line.now 0 ≡ 48 → digits ≡ 1)) }
+{
+    match digits {
+        0 => false,
+        1 => true,
+        _ => line[0] != b'0',
+    }
+}
+
+// Whether a space or the line's end is at a place.
+#[inline(always)]
+fn ends_at(line: &[u8], place: usize) -> bool
+    ensures { OnTrue result (place < length line.now → slice_index line.now place ≡ space) }
+{
+    match line.get(place) {
+        Some(byte) => *byte == b' ',
+        None => true,
+    }
 }
