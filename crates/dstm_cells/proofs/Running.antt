@@ -261,14 +261,14 @@ untaken_leaves {X = X} ran same (Err e) why is (inr unread) left =
     subst (λ w. LeavesBy {X = X} ran same (Err w)) (sym (is ∙ unread)) left
 
 -- what failed has left the same, whatever was to be answered
-pub failed_leaves : (X Y ran same : Type 0) (why : Failed) → LeavesBy {X = X} ran same (Err why) →
-    LeavesBy {X = Y} ran same (Err why)
-failed_leaves X Y ran same failed.Full left = left
-failed_leaves X Y ran same failed.Memory left = left
-failed_leaves X Y ran same failed.Threads left = left
-failed_leaves X Y ran same (failed.GaveUp why) left = left
-failed_leaves X Y ran same failed.Unread left = left
-failed_leaves X Y ran same failed.Foreign left = left
+pub failed_leaves : {X : Type 0} (answer : Result X Failed) (Y ran same : Type 0) (why : Failed) →
+    LeavesBy {X = X} ran same (Err why) → LeavesBy {X = Y} ran same (Err why)
+failed_leaves answer Y ran same failed.Full left = left
+failed_leaves answer Y ran same failed.Memory left = left
+failed_leaves answer Y ran same failed.Threads left = left
+failed_leaves answer Y ran same (failed.GaveUp why) left = left
+failed_leaves answer Y ran same failed.Unread left = left
+failed_leaves answer Y ran same failed.Foreign left = left
 
 -- there is one answer where nothing is answered
 pub answers_nothing : (x : Unit {0}) → x ≡ tt

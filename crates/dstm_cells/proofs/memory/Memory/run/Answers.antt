@@ -32,5 +32,7 @@ returns-in_err-run_each-clause-left g c =
     let ran : Result (Unit {0}) Failed → Type 0 =
     λ answer. RanOn TheLaw.holds-value.it g.F.Fn c.args.f memory.engine memory.law memory.values.items c.args.threads after
     (λ ends. OnOk answer ((number : ℕ) → number < c.args.threads → ends number ≡ Ok tt) × FailsByFirst ends c.args.threads answer) in
-    subst (λ answer. LeavesBy (ran answer) _ answer) (sym (err_is c.from_residual.result why c.from_residual.ensures.1))
-    (failed_leaves _ _ (ran (Err why)) _ why c.in_err-run_each.ensures.left)
+    let same : Type 0 = (c.run_each.new.self ≡ memory) in
+    subst (λ (answer : Result (Unit {0}) Failed). LeavesBy (ran answer) same answer)
+    (sym (err_is c.from_residual.result why c.from_residual.ensures.1))
+    (failed_leaves c.run_each.result (Unit {0}) (ran (Err why)) same why c.in_err-run_each.ensures.left)
