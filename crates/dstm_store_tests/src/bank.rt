@@ -46,15 +46,15 @@ fn answer(mem: &mut Counting, layout: &Layout, op: Op) -> Reply
 #[test]
 fn money_moves(rt: HostRuntime) -> Result<(), Fail> {
     let mut mem = opened(rt.alloc(), &BANK)?;
-    assert_eq!(rt; answer(&mut mem, &BANK, pay(0, 1, 30)), Reply::Moved);
-    assert_eq!(rt; answer(&mut mem, &BANK, pay(0, 1, 71)), Reply::Poor);
-    assert_eq!(rt; answer(&mut mem, &BANK, pay(1, 1, 130)), Reply::Moved);
-    assert_eq!(rt; answer(&mut mem, &BANK, pay(0, 0, 71)), Reply::Poor);
+    assert!(rt; answer(&mut mem, &BANK, pay(0, 1, 30)) == Reply::Moved);
+    assert!(rt; answer(&mut mem, &BANK, pay(0, 1, 71)) == Reply::Poor);
+    assert!(rt; answer(&mut mem, &BANK, pay(1, 1, 130)) == Reply::Moved);
+    assert!(rt; answer(&mut mem, &BANK, pay(0, 0, 71)) == Reply::Poor);
     let told = answer(&mut mem, &BANK, Op::Balance { account: 1 });
-    assert_eq!(rt; told, Reply::Number(130));
-    assert_eq!(rt; answer(&mut mem, &BANK, Op::Total), Reply::Number(200));
+    assert!(rt; told == Reply::Number(130));
+    assert!(rt; answer(&mut mem, &BANK, Op::Total) == Reply::Number(200));
     let after = [Val { low: 70, high: 0 }, Val { low: 130, high: 0 }];
     let (_, values) = mem.end();
-    assert_eq!(rt; values.as_slice(), after.as_slice());
+    assert!(rt; values.as_slice() == after.as_slice());
     Ok(())
 }

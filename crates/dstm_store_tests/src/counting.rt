@@ -14,7 +14,7 @@ use dstm_store::opening;
 use std::alloc::{AllocError, Global};
 
 /// How many calls open an object, for reading and for writing.
-#[derive(Clone, Copy, Debug, PartialEq, Eq)]
+#[derive(Clone, Copy, PartialEq, Eq)]
 pub(crate) struct Opens {
     pub(crate) reads: u32,
     pub(crate) writes: u32,
@@ -35,7 +35,7 @@ pub(crate) struct Counting {
 }
 
 /// How many calls open an object, and how many objects are reads that are kept.
-#[derive(Clone, Copy, Debug, PartialEq, Eq)]
+#[derive(Clone, Copy, PartialEq, Eq)]
 pub(crate) struct Counts {
     pub(crate) opens: u32,
     pub(crate) kept: u32,

@@ -78,7 +78,7 @@ fn a_read_is_let_go(rt: HostRuntime) -> Result<(), Fail> {
     let five = Val { low: 5, high: 0 };
     let mut mem = FlatMem::make(rt.alloc(), vec![in rt.alloc(); five]?)?;
     match read_and_release(&mut mem, 0) {
-        Ok(answers) => assert_eq!(rt; answers, (true, false)),
+        Ok(answers) => assert!(rt; answers == (true, false)),
         Err(never) => match never {},
     }
     Ok(())
@@ -90,10 +90,10 @@ fn a_set_is_read_back(rt: HostRuntime) -> Result<(), Fail> {
     let six = Val { low: 6, high: 0 };
     let mut mem = FlatMem::make(rt.alloc(), vec![in rt.alloc(); five]?)?;
     match set_and_read(&mut mem, 0, six) {
-        Ok(answers) => assert_eq!(rt; answers, (five, six)),
+        Ok(answers) => assert!(rt; answers == (five, six)),
         Err(never) => match never {},
     }
-    assert_eq!(rt; mem.values().as_slice(), [six].as_slice());
+    assert!(rt; mem.values().as_slice() == [six].as_slice());
     Ok(())
 }
 
@@ -108,8 +108,8 @@ fn a_body_leaves_what_it_sets(rt: HostRuntime) -> Result<(), Fail> {
     };
     let values = vec![in rt.alloc(); one, one]?;
     let (_, after) = run_body::<NotEmpty, Replace>(rt.alloc(), values, &mut body)?;
-    assert_eq!(rt; after.as_slice(), [three, one].as_slice());
-    assert_eq!(rt; body.found, one);
+    assert!(rt; after.as_slice() == [three, one].as_slice());
+    assert!(rt; body.found == one);
     Ok(())
 }
 

@@ -110,10 +110,10 @@ fn operations_answer_as_the_plain_store_does(rt: HostRuntime) -> Result<(), Fail
     }
     let (replies, state) = run_each(rt.alloc(), &OF_EACH, &ops)?;
     let (wanted, holds) = run_plain(rt.alloc(), &OF_EACH, &ops)?;
-    assert_eq!(rt; replies.as_slice(), wanted.as_slice());
-    assert_eq!(rt; state.bank.as_slice(), holds.bank.as_slice());
-    assert_eq!(rt; state.list.as_slice(), holds.list.as_slice());
-    assert_eq!(rt; state.tree.as_slice(), holds.tree.as_slice());
+    assert!(rt; replies.as_slice() == wanted.as_slice());
+    assert!(rt; state.bank.as_slice() == holds.bank.as_slice());
+    assert!(rt; state.list.as_slice() == holds.list.as_slice());
+    assert!(rt; state.tree.as_slice() == holds.tree.as_slice());
     Ok(())
 }
 
@@ -172,9 +172,9 @@ fn a_job_of_all_keys(rt: HostRuntime) -> Result<(), Fail> {
     let remove = [Op::Remove { which, key: 4 }];
     let jobs = [insert.as_slice(), remove.as_slice()];
     let (replies, state) = run_jobs(rt.alloc(), &layout, &jobs)?;
-    assert_eq!(rt; replies.as_slice(), [Reply::Yes; 8].as_slice());
+    assert!(rt; replies.as_slice() == [Reply::Yes; 8].as_slice());
     let items = [1, 2, 3, 5, 6, 7].map(|key| item(key, 0));
-    assert_eq!(rt; state.tree.as_slice(), items.as_slice());
+    assert!(rt; state.tree.as_slice() == items.as_slice());
     Ok(())
 }
 
@@ -213,7 +213,7 @@ fn what_the_bank_opens(rt: HostRuntime) -> Result<(), Fail> {
         (Op::Balance { account: 1 }, Reply::Number(70), 1, 0),
         (Op::Total, Reply::Number(250), 5, 0),
     ];
-    assert_eq!(rt; first_other(&mut mem, &layout, &rows), None);
+    assert!(rt; first_other(&mut mem, &layout, &rows) == None);
     Ok(())
 }
 
@@ -238,7 +238,7 @@ fn what_the_list_opens(rt: HostRuntime) -> Result<(), Fail> {
         (Op::Remove { which, key: 20 }, Reply::Yes, 3, 3),
         (Op::Member { which, key: 40 }, Reply::Yes, 4, 0),
     ];
-    assert_eq!(rt; first_other(&mut mem, &layout, &rows), None);
+    assert!(rt; first_other(&mut mem, &layout, &rows) == None);
     Ok(())
 }
 
@@ -257,7 +257,7 @@ fn opens_at_most(mem: &mut Counting, layout: &Layout, ops: &[Op], reads: u32, wr
     true
 }
 
-#[derive(Clone, Copy, Debug, PartialEq, Eq)]
+#[derive(Clone, Copy, PartialEq, Eq)]
 enum Kind {
     Insert,
     Put,
@@ -323,6 +323,6 @@ fn a_full_tree_is_only_read(rt: HostRuntime) -> Result<(), Fail> {
         (Op::Put { key: 3, value: 6 }, Reply::No, 2, 1),
         (Op::Insert { which, key: 3 }, Reply::No, 2, 0),
     ];
-    assert_eq!(rt; first_other(&mut mem, &layout, &rows), None);
+    assert!(rt; first_other(&mut mem, &layout, &rows) == None);
     Ok(())
 }

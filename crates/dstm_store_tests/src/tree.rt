@@ -108,7 +108,7 @@ fn operations_answer_as_a_map_does(rt: HostRuntime) -> Result<(), Fail> {
         seed = seed.wrapping_mul(1_103_515_245).wrapping_add(12_345);
         let op = pick(seed);
         let reply = answer(&mut mem, op);
-        assert_eq!(rt; reply, expected(&mut map, op)?);
+        assert!(rt; reply == expected(&mut map, op)?);
     }
     Ok(())
 }
@@ -118,15 +118,15 @@ fn a_full_tree_has_room_again_after_a_removal(rt: HostRuntime) -> Result<(), Fai
     let which = Which::Tree;
     let mut mem = opened(rt.alloc(), &LAYOUT)?;
     for key in 1..9 {
-        assert_eq!(rt; answer(&mut mem, Op::Insert { which, key }), Reply::Yes);
+        assert!(rt; answer(&mut mem, Op::Insert { which, key }) == Reply::Yes);
     }
-    assert_eq!(rt; answer(&mut mem, Op::Insert { which, key: 9 }), Reply::Full);
-    assert_eq!(rt; answer(&mut mem, Op::Insert { which, key: 4 }), Reply::No);
-    assert_eq!(rt; answer(&mut mem, Op::Remove { which, key: 2 }), Reply::Yes);
-    assert_eq!(rt; answer(&mut mem, Op::Remove { which, key: 2 }), Reply::No);
-    assert_eq!(rt; answer(&mut mem, Op::Insert { which, key: 9 }), Reply::Yes);
-    assert_eq!(rt; answer(&mut mem, Op::Member { which, key: 9 }), Reply::Yes);
-    assert_eq!(rt; answer(&mut mem, Op::Member { which, key: 2 }), Reply::No);
+    assert!(rt; answer(&mut mem, Op::Insert { which, key: 9 }) == Reply::Full);
+    assert!(rt; answer(&mut mem, Op::Insert { which, key: 4 }) == Reply::No);
+    assert!(rt; answer(&mut mem, Op::Remove { which, key: 2 }) == Reply::Yes);
+    assert!(rt; answer(&mut mem, Op::Remove { which, key: 2 }) == Reply::No);
+    assert!(rt; answer(&mut mem, Op::Insert { which, key: 9 }) == Reply::Yes);
+    assert!(rt; answer(&mut mem, Op::Member { which, key: 9 }) == Reply::Yes);
+    assert!(rt; answer(&mut mem, Op::Member { which, key: 2 }) == Reply::No);
     Ok(())
 }
 
@@ -134,14 +134,14 @@ fn a_full_tree_has_room_again_after_a_removal(rt: HostRuntime) -> Result<(), Fai
 fn a_key_has_the_value_that_was_put_last(rt: HostRuntime) -> Result<(), Fail> {
     let which = Which::Tree;
     let mut mem = opened(rt.alloc(), &LAYOUT)?;
-    assert_eq!(rt; answer(&mut mem, Op::Put { key: 5, value: 9 }), Reply::Yes);
-    assert_eq!(rt; answer(&mut mem, Op::Put { key: 5, value: 8 }), Reply::No);
-    assert_eq!(rt; answer(&mut mem, Op::Get { key: 5 }), Reply::Number(8));
-    assert_eq!(rt; answer(&mut mem, Op::Get { key: 6 }), Reply::Absent);
-    assert_eq!(rt; answer(&mut mem, Op::Insert { which, key: 5 }), Reply::No);
-    assert_eq!(rt; answer(&mut mem, Op::Insert { which, key: 6 }), Reply::Yes);
-    assert_eq!(rt; answer(&mut mem, Op::Get { key: 5 }), Reply::Number(8));
-    assert_eq!(rt; answer(&mut mem, Op::Get { key: 6 }), Reply::Number(0));
+    assert!(rt; answer(&mut mem, Op::Put { key: 5, value: 9 }) == Reply::Yes);
+    assert!(rt; answer(&mut mem, Op::Put { key: 5, value: 8 }) == Reply::No);
+    assert!(rt; answer(&mut mem, Op::Get { key: 5 }) == Reply::Number(8));
+    assert!(rt; answer(&mut mem, Op::Get { key: 6 }) == Reply::Absent);
+    assert!(rt; answer(&mut mem, Op::Insert { which, key: 5 }) == Reply::No);
+    assert!(rt; answer(&mut mem, Op::Insert { which, key: 6 }) == Reply::Yes);
+    assert!(rt; answer(&mut mem, Op::Get { key: 5 }) == Reply::Number(8));
+    assert!(rt; answer(&mut mem, Op::Get { key: 6 }) == Reply::Number(0));
     // The root and the free node are 1 and 3; node 1 is black and has key 5, node 2 on its right is red.
     let (_, values) = mem.end();
     let parts = [
@@ -152,7 +152,7 @@ fn a_key_has_the_value_that_was_put_last(rt: HostRuntime) -> Result<(), Fail> {
         (4, 0),
     ];
     let wanted = parts.map(|(low, high)| Val { low, high });
-    assert_eq!(rt; values.get(..5), Some(wanted.as_slice()));
+    assert!(rt; values.get(..5) == Some(wanted.as_slice()));
     Ok(())
 }
 
