@@ -30,7 +30,7 @@ fn what_is_put_is_found(rt: HostRuntime) {
 fn cells_name_cells(rt: HostRuntime) -> Result<(), Fail> {
     let mut memory = Memory::new(rt.alloc());
     let cells = memory.cells(3u64, 2)?;
-    assert_eq!(rt; cells.len(), 2);
+    assert!(rt; cells.len() == 2);
     let (Some(first), Some(second)) = (cells.get(0), cells.get(1)) else {
         return Ok(());
     };
@@ -45,16 +45,16 @@ fn cells_name_cells(rt: HostRuntime) -> Result<(), Fail> {
             tx.set(next, Some(named))
         })
     })?;
-    assert_eq!(rt; memory.get(first)?, 4);
+    assert!(rt; memory.get(first)? == 4);
     let named = memory.get(name)?;
-    assert_eq!(rt; memory.get(named)?, 3);
+    assert!(rt; memory.get(named)? == 3);
     let Some(named) = memory.get(next)? else {
         return Ok(());
     };
-    assert_eq!(rt; memory.get(named)?, 4);
+    assert!(rt; memory.get(named)? == 4);
     let mut other = Memory::new(rt.alloc());
     let _one = other.cell(0u64)?;
-    assert_eq!(rt; other.get(second), Err(Failed::Foreign));
+    assert!(rt; other.get(second) == Err(Failed::Foreign));
     Ok(())
 }
 
@@ -73,8 +73,8 @@ fn a_transaction_reads_and_changes_cells(rt: HostRuntime) -> Result<(), Fail> {
             })?;
             me.atomically(|tx| tx.set(two, (found, 0)))
         })?;
-        assert_eq!(rt; memory.get(one)?, 7);
-        assert_eq!(rt; memory.get(two)?, (7, 0));
+        assert!(rt; memory.get(one)? == 7);
+        assert!(rt; memory.get(two)? == (7, 0));
     }
     Ok(())
 }
@@ -104,9 +104,9 @@ fn what_an_alternative_has_set_is_undone(rt: HostRuntime) -> Result<(), Fail> {
                 tx.set(seen, found)
             })
         })?;
-        assert_eq!(rt; memory.get(seen)?, (1, 20));
-        assert_eq!(rt; memory.get(one)?, 1);
-        assert_eq!(rt; memory.get(two)?, 20);
+        assert!(rt; memory.get(seen)? == (1, 20));
+        assert!(rt; memory.get(one)? == 1);
+        assert!(rt; memory.get(two)? == 20);
     }
     Ok(())
 }
@@ -119,7 +119,7 @@ fn the_first_alternative_is_taken_where_it_does_not_retry(rt: HostRuntime) -> Re
         memory.run(&rt, 1, |me, _| {
             me.atomically(|tx| tx.or_else(|tx| tx.set(cell, 2), |tx| tx.set(cell, 3)))
         })?;
-        assert_eq!(rt; memory.get(cell)?, 2);
+        assert!(rt; memory.get(cell)? == 2);
     }
     Ok(())
 }
@@ -139,7 +139,7 @@ fn a_transaction_waits_for_what_it_has_read(rt: HostRuntime) -> Result<(), Fail>
                 tx.set(passed, 1)
             })
         })?;
-        assert_eq!(rt; memory.get(passed)?, 1);
+        assert!(rt; memory.get(passed)? == 1);
     }
     Ok(())
 }
@@ -156,14 +156,11 @@ fn a_run_tells_why_it_failed(rt: HostRuntime) -> Result<(), Fail> {
             me.set_looks(8);
             me.atomically(|tx| tx.or_else(|tx| tx.ensure(false), |_| retry()))
         });
-        assert_eq!(rt; idle, Err(Failed::GaveUp(GaveUp::Idle)));
+        assert!(rt; idle == Err(Failed::GaveUp(GaveUp::Idle)));
         let strange = memory.run(&rt, 1, |me, _| me.atomically(|tx| tx.set(foreign, 1)));
-        assert_eq!(rt; strange, Err(Failed::GaveUp(GaveUp::Foreign)));
+        assert!(rt; strange == Err(Failed::GaveUp(GaveUp::Foreign)));
         for threads in [0, 64] {
-            assert_eq!(rt;
-                memory.run(&rt, threads, |_, _| Ok(())),
-                Err(Failed::Threads)
-            );
+            assert!(rt; memory.run(&rt, threads, |_, _| Ok(())) == Err(Failed::Threads));
         }
     }
     Ok(())
@@ -188,8 +185,8 @@ fn a_thread_adds_one_65537_times(rt: HostRuntime) -> Result<(), Fail> {
             }
             Ok(())
         });
-        assert_eq!(rt; added, ended);
-        assert_eq!(rt; memory.get(cell)?, left);
+        assert!(rt; added == ended);
+        assert!(rt; memory.get(cell)? == left);
     }
     Ok(())
 }
@@ -202,16 +199,16 @@ fn a_part_is_taken_back_and_a_table_closed(rt: HostRuntime) -> Result<(), Fail> 
         let (table, mut founder) = memory.found(1)?;
         let me = memory.part(&table, &mut founder, 0)?;
         memory.retire(&table, &mut founder, me);
-        assert_eq!(rt; founder.out(), 0);
+        assert!(rt; founder.out() == 0);
         let (other, founder) = memory.found(1)?;
         memory.close(other, founder)?;
-        assert_eq!(rt; memory.get(cell)?, 7);
+        assert!(rt; memory.get(cell)? == 7);
     }
     Ok(())
 }
 
 #[test]
 fn an_engine_is_told(rt: HostRuntime) {
-    assert_eq!(rt; Engine::Dstm(Manager::Karma), Engine::Dstm(Manager::Karma));
+    assert!(rt; Engine::Dstm(Manager::Karma) == Engine::Dstm(Manager::Karma));
     assert!(rt; Engine::Tl2 != Engine::Dstm(Manager::Karma));
 }

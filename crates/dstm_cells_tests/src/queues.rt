@@ -28,22 +28,22 @@ fn beside_a_deque<R: Abort>(
         let drawn = draw(seed);
         if drawn % 9 < 5 {
             let pushed = me.atomically(|tx| queue.try_push(tx, drawn))?;
-            assert_eq!(rt; pushed, plain.len() < 5);
+            assert!(rt; pushed == (plain.len() < 5));
             if pushed && plain.push_back(drawn).is_err() {
                 return Err(GaveUp::Memory);
             }
         } else {
             let front = me.atomically(|tx| queue.front(tx))?;
             let popped = me.atomically(|tx| queue.try_pop(tx))?;
-            assert_eq!(rt; front, popped);
-            assert_eq!(rt; popped, plain.pop_front());
+            assert!(rt; front == popped);
+            assert!(rt; popped == plain.pop_front());
         }
         let count = me.atomically(|tx| queue.len(tx))?;
-        assert_eq!(rt; count as usize, plain.len());
+        assert!(rt; count as usize == plain.len());
     }
     for _ in 0..5u32 {
         let popped = me.atomically(|tx| queue.try_pop(tx))?;
-        assert_eq!(rt; popped, plain.pop_front());
+        assert!(rt; popped == plain.pop_front());
     }
     Ok(())
 }
@@ -72,7 +72,7 @@ fn a_queue_on_threads_loses_nothing(rt: HostRuntime) -> Result<(), Fail> {
         let queue: Queue<u64> = Queue::new(&mut memory, 5)?;
         let other: Queue<u64> = Queue::new(&mut memory, 3)?;
         let sum = memory.cell(0u64)?;
-        assert_eq!(rt; other.capacity(), 3);
+        assert!(rt; other.capacity() == 3);
         memory.run(&rt, 4, |me, number| {
             for item in 1..=600u64 {
                 me.atomically(|tx| match number {
@@ -91,7 +91,7 @@ fn a_queue_on_threads_loses_nothing(rt: HostRuntime) -> Result<(), Fail> {
             }
             Ok(())
         })?;
-        assert_eq!(rt; memory.get(sum)?, 90_300);
+        assert!(rt; memory.get(sum)? == 90_300);
     }
     Ok(())
 }
