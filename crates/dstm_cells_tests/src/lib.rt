@@ -5,6 +5,8 @@
 #[cfg(test)]
 mod cells;
 #[cfg(test)]
+mod maps;
+#[cfg(test)]
 mod queues;
 #[cfg(test)]
 mod runs;

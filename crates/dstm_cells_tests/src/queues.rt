@@ -8,7 +8,7 @@ use std::process::Abort;
 use std::test::Fail;
 
 // The next number of a row that looks random.
-fn draw(seed: &mut u64) -> u64 {
+pub fn draw(seed: &mut u64) -> u64 {
     *seed = seed
         .wrapping_mul(6_364_136_223_846_793_005)
         .wrapping_add(1_442_695_040_888_963_407);
