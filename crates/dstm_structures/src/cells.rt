@@ -1,6 +1,6 @@
 // Cells by their numbers.
 ghost use Rattle.std.specs.Prelude.{◌≡◌, ◌+◌, ◌*◌, ◌<◌, ◌≤◌};
-ghost use Rattle.dstm_structures.specs.Circles.{next};
+ghost use Rattle.dstm_structures.specs.Circles.{behind, next};
 
 use dstm_cells::{Cell, Word};
 use dstm_model::Val;
@@ -49,4 +49,15 @@ pub(crate) fn next(places: u32, at: u32) -> u32
     ensures { result ≡ next places at }
 {
     if at + 1 < places { at + 1 } else { 0 }
+}
+
+// The place so many behind this one of so many, in a circle.
+pub(crate) fn behind(places: u32, at: u32, count: u32) -> u32
+    requires at { at < places }
+    requires count { count < places }
+    ensures behind { result ≡ behind places at count }
+    ensures within { result < places }
+{
+    let left = places - count;
+    if at < left { at + count } else { at - left }
 }

@@ -2,12 +2,11 @@
 ghost use Rattle.std.specs.Prelude.{◌≡◌, ◌+◌, ◌*◌, ◌<◌, ◌≤◌, false, IfErr, IfOk, IfSome, OnOk};
 ghost use Rattle.dstm_cells.specs.Alternatives.{Notes, noting};
 ghost use Rattle.dstm_cells.specs.UnderWay.{Keeps};
-ghost use Rattle.dstm_structures.specs.Circles.{behind};
 ghost use Rattle.dstm_structures.specs.Effects.{Does, Stops};
 ghost use Rattle.dstm_structures.specs.Maps.{Adds, ClearsAll, Empties, Extends, Frees, Inserts, Puts, Reaches, Removes, Seeks, Stores, Tells, TellsIf, end_of, home_in};
 ghost use Rattle.dstm_structures.specs.Places.{is_free, is_key};
 
-use crate::cells::{Rows, cell, number};
+use crate::cells::{Rows, behind, cell, number};
 use dstm_cells::{Cell, Failed, MOST_CELLS, Memory, Stop, Tx, Word};
 use dstm_model::Law;
 use std::marker::PhantomData;
@@ -133,7 +132,7 @@ impl<V: Word> HashMap<V> {
         let home = self.home(key);
         let reach = self.reach(tx, home)?;
         for passed in 0..reach {
-            let at = self.behind(home, passed);
+            let at = behind(self.cells.capacity, home, passed);
             let held = tx.get(self.key_at(at))?;
             if is_key(key, held) {
                 return Ok(Some(at));
@@ -155,7 +154,7 @@ impl<V: Word> HashMap<V> {
         let Some(passed) = free else {
             return Ok(Placed::Full);
         };
-        self.store(tx, self.behind(home, passed), key, value)?;
+        self.store(tx, behind(self.cells.capacity, home, passed), key, value)?;
         self.extend(tx, home, passed + 1)?;
         Ok(Placed::New)
     }
@@ -172,7 +171,7 @@ impl<V: Word> HashMap<V> {
     {
         let reach = self.reach(tx, home)?;
         for passed in 0..self.cells.capacity {
-            let held = tx.get(self.key_at(self.behind(home, passed)))?;
+            let held = tx.get(self.key_at(behind(self.cells.capacity, home, passed)))?;
             if self.is_free(home, passed >= reach, held) {
                 return Ok(Some(passed));
             }
@@ -223,7 +222,7 @@ impl<V: Word> HashMap<V> {
         let home = self.home(key);
         let reach = self.reach(tx, home)?;
         for passed in 0..reach {
-            self.empty(tx, self.behind(home, passed), key)?;
+            self.empty(tx, behind(self.cells.capacity, home, passed), key)?;
         }
         Ok(())
     }
@@ -270,20 +269,6 @@ impl<V: Word> HashMap<V> {
     {
         let mixed = key.wrapping_mul(11_400_714_819_323_198_485) / 4_294_967_296;
         (mixed % u64::from(self.cells.capacity)) as u32
-    }
-
-    // The place so many behind this one, in a circle.
-    fn behind(self, home: u32, passed: u32) -> u32
-        requires home { home < self.cells.capacity }
-        requires passed { passed < self.cells.capacity }
-        ensures behind { result ≡ behind self.cells.capacity home passed }
-        ensures within { result < self.cells.capacity }
-    {
-        if home + passed < self.cells.capacity {
-            home + passed
-        } else {
-            home + passed - self.cells.capacity
-        }
     }
 
     // Whether a place is free for keys of this home.

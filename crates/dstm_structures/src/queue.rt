@@ -3,11 +3,10 @@ ghost use Rattle.std.specs.Prelude.{◌≡◌, ◌+◌, ◌<◌, false, IfErr, I
 ghost use Rattle.dstm_cells.specs.Alternatives.{Notes, noting};
 ghost use Rattle.dstm_cells.specs.UnderWay.{Keeps, stop_by};
 ghost use Rattle.dstm_cells.specs.declared.error.Why.TheVariants.{Retry};
-ghost use Rattle.dstm_structures.specs.Circles.{behind};
 ghost use Rattle.dstm_structures.specs.Effects.{Does, Stops};
 ghost use Rattle.dstm_structures.specs.Queues.{Adds, Counts, Fronts, Pops, PutsLast, Pushes, TakesFirst, end_of, within};
 
-use crate::cells::{Ring, cell, next, number};
+use crate::cells::{Ring, behind, cell, next, number};
 use dstm_cells::{Cell, Failed, MOST_CELLS, Memory, Stop, Tx, Word, retry};
 use dstm_model::Law;
 use std::marker::PhantomData;
@@ -75,7 +74,7 @@ impl<T: Word> Queue<T> {
         if count >= self.cells.capacity {
             return Ok(false);
         }
-        tx.set(self.place(self.behind(at, count)), value)?;
+        tx.set(self.place(behind(self.cells.capacity, at, count)), value)?;
         tx.set(self.ends(), (at, count + 1))?;
         Ok(true)
     }
@@ -174,18 +173,5 @@ impl<T: Word> Queue<T> {
             self.cells.capacity
         };
         (at, count)
-    }
-
-    // The place so many behind this one, in a circle.
-    fn behind(self, at: u32, count: u32) -> u32
-        requires place { at < self.cells.capacity }
-        requires count { count < self.cells.capacity }
-        ensures { result ≡ behind self.cells.capacity at count }
-    {
-        if at + count < self.cells.capacity {
-            at + count
-        } else {
-            at + count - self.cells.capacity
-        }
     }
 }

@@ -29,5 +29,5 @@ returns-clause-pushes g c =
     pushed g.L.Law.holds g.T.Word.found c.args.self c.args.tx.now.attempts.caller c.get.new.self.attempts.caller
     c.set.new.self.attempts.caller c.set-2.new.self.attempts.caller c.in_ok-ends.ends c.within-at.result
     c.in_ok-set-2.ensures.puts.0 c.ends.result.object c.place.result.object c.ends-2.result.object c.behind.result
-    c.in_ok-set.ensures.puts.0 c.args.value c.ends.ensures c.within-at.ensures c.if-count-self.false c.behind.ensures
+    c.in_ok-set.ensures.puts.0 c.args.value c.ends.ensures c.within-at.ensures c.if-count-self.false c.behind.ensures.behind
     c.place.ensures c.ends-2.ensures c.in_ok-ends.ensures.gets c.in_ok-set.ensures.puts.1 c.in_ok-set-2.ensures.puts.1
