@@ -43,6 +43,19 @@ module _ {L : Type 0} (holds : L → List Val → Type 0) (size : ℕ) where
     };
   }
 
+  -- no call was made
+  pub does-still : (E : List Val → List Val → Type 0) (k : Caller L) → ((values : List Val) → E values values) →
+      Does holds size E k k
+  does-still E k same = record { narrows = λ map may. may; does = λ there map may. same (seen k map) }
+
+  -- what is done where there are fewer objects
+  pub does-wider : (less : ℕ) → less ≤ size → (E : List Val → List Val → Type 0) (k n : Caller L) → Does holds less E k n →
+      Does holds size E k n
+  does-wider less most E k n done = record {
+    narrows = done.narrows;
+    does = λ there map may. done.does (omega (arith, there, most)) map may;
+  }
+
   -- one call after the other
   pub does-then : (E F G : List Val → List Val → Type 0) (k m n : Caller L) → Keeps k m → Does holds size E k m →
       Does holds size F m n →

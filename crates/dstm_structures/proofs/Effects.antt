@@ -47,6 +47,14 @@ module _ {L : Type 0} where
   stops-later size before notes same k m keeps Foreign s = omega (arith, s, same_objects k m keeps)
   stops-later size before notes same k m keeps Memory s = sym same ∙ s
 
+  -- a call within fewer objects
+  pub stops-wider : (less size : ℕ) → less ≤ size → (before notes : Bool) → before ≡ notes → (k m : Caller L) → Keeps k m →
+      (why : Why) → Stops less before m why → Stops size notes k why
+  stops-wider less size most before notes same k m keeps Again s = tt
+  stops-wider less size most before notes same k m keeps Retry s = absurd s
+  stops-wider less size most before notes same k m keeps Foreign s = omega (arith, s, most, same_objects k m keeps)
+  stops-wider less size most before notes same k m keeps Memory s = sym same ∙ s
+
   -- a call that only looks does not want memory
   pub stops-unnoted : (size : ℕ) (notes : Bool) (k m : Caller L) → Keeps k m → (why : Why) → Stops size false m why →
       Stops size notes k why

@@ -7,12 +7,12 @@ use Rattle.dstm_model.specs.declared.value.Val.{Val}
 use Rattle.dstm_model.specs.Map.{no_value, value_at}
 use Rattle.dstm_structures.specs.Circles.{behind}
 use Rattle.dstm_structures.specs.Places.{AreTaken, find, is_free, is_key}
-use Rattle.dstm_structures.specs.Maps.{Adds, Clears, ClearsAll, Empties, Extends, FreeAt, Inserts, Makes, NoneFree, Puts, Reaches, Seeks, Stores, Tells, TellsIf, at_place, end_of, home_in, homes, item_of, key_at, key_of, keys_in, place_in, reach_at, reach_of, values_in}
+use Rattle.dstm_structures.specs.Maps.{Adds, Clears, ClearsAll, Empties, Extends, FreeAt, Inserts, InsertsAt, InsertsBy, Makes, NoneFree, Puts, Reaches, Seeks, Stores, Tells, TellsIf, at_place, end_of, home_in, homes, item_of, key_at, key_of, keys_in, outcome, place_in, reach_at, reach_of, values_in}
 use Rattle.dstm_structures.specs.declared.map.HashMap.{HashMap}
 use Rattle.dstm_structures.specs.declared.map.Placed.{Placed}
-use Rattle.dstm_structures.specs.declared.map.Placed.TheVariants.{New, Instead, Full}
+use Rattle.dstm_structures.specs.declared.map.Placed.TheVariants.{Instead}
 use Rattle.dstm_structures.proofs.Doing.{Reads, Writes}
-use Rattle.dstm_structures.proofs.Maps.{added-here, added-other, home-within, item-same, place-kept, removed-here, replaced-here, replaced-other}
+use Rattle.dstm_structures.proofs.Maps.{added-apart, added-here, added-other, added-there, home-within, item-same, place-kept, removed-here, replaced-here, replaced-other}
 use Rattle.dstm_structures.proofs.Places.{behind-below, distance, is_key-apart, key_is}
 
 module _ {V : Type 0} (map : HashMap V) where
@@ -375,15 +375,20 @@ module _ {V : Type 0} (found : Val → V) (map : HashMap V) where
       beside x (inr high) kept = kept x (λ e. omega (arith, e, high, here))
 
   -- a key that was not there is put
-  pub puts-absent : (key : ℕ) (value : V) (placed : Placed V) (before mid after : List Val) → Seeks map key None before mid →
-      Inserts found map key value placed mid after → Puts found map key value placed before after
-  puts-absent key value placed before mid after s inserts =
-      let told : Inserts found map key value placed before after =
-      subst (λ (xs : List Val). Inserts found map key value placed xs after) s.same inserts in
-      told s.is
+  pub puts-absent : (key : ℕ) (value : V) (place : Option ℕ) (placed : Placed V) (before mid after : List Val) →
+      placed ≡ outcome place → Seeks map key None before mid → Inserts found map key value place mid after →
+      Puts found map key value placed before after
+  puts-absent key value place placed before mid after is s inserts =
+      subst (λ (p : Placed V). Puts found map key value p before after) (sym is)
+      (by place (subst (λ (xs : List Val). Inserts found map key value place xs after) s.same inserts s.is))
+    where
+      by : (at : Option ℕ) → InsertsBy found map key value at before after →
+          Puts found map key value (outcome at) before after
+      by None full = full
+      by (Some at) put = put.makes
 
   pub inserts-none : (key h : ℕ) (value : V) (before after : List Val) → 0 < m → h ≡ home_in m key →
-      NoneFree map h before after → Inserts found map key value Full before after
+      NoneFree map h before after → Inserts found map key value None before after
   inserts-none key h value before after some home none absent = record {
     was = ap (at_place (values_in found f m before)) absent;
     full = λ at here. all at (distance m h at homed here);
@@ -406,15 +411,20 @@ module _ {V : Type 0} (found : Val → V) (map : HashMap V) where
   inserts-here : (key i : ℕ) (value : V) (before near after : List Val) → 0 < m → i < m →
       FreeAt map (home_in m key) i before before → Stores found map (behind m (home_in m key) i) key value before near →
       Extends map (home_in m key) (i + 1) near after → place_in f m before key ≡ None →
-      Makes found map key (Some value) None before after
-  inserts-here key i value before near after some few free s e absent =
-      record {
-        was = ap (at_place (values_in found f m before)) absent;
-        is = added-here found f m some before after key i value few absent free.free free.taken there others far as_far is values;
-        others = λ k apart. added-other found f m some before after key i value few absent free.free free.taken there others far
-            as_far is values k apart;
-        around = λ x out. beside x out;
-      }
+      InsertsAt found map key (behind m (home_in m key) i) value before after
+  inserts-here key i value before near after some few free s e absent = record {
+    makes = record {
+      was = ap (at_place (values_in found f m before)) absent;
+      is = added-here found f m some before after key i value few absent free.free free.taken there others far as_far is values;
+      others = λ k apart. added-other found f m some before after key i value few absent free.free free.taken there others far
+          as_far is values k apart;
+      around = λ x out. beside x out;
+    };
+    there = added-there found f m some before after key i value few absent free.free free.taken there others far as_far is
+        values;
+    places = λ k apart. added-apart found f m some before after key i value few absent free.free free.taken there others far
+        as_far is values k apart;
+  }
     where
       h : ℕ
       h = home_in m key
@@ -469,14 +479,15 @@ module _ {V : Type 0} (found : Val → V) (map : HashMap V) where
 
   pub inserts-new : (key h passed at : ℕ) (value : V) (before mid near after : List Val) → 0 < m → h ≡ home_in m key →
       passed < m → at ≡ behind m h passed → FreeAt map h passed before mid → Stores found map at key value mid near →
-      Extends map h (passed + 1) near after → Inserts found map key value New before after
+      Extends map h (passed + 1) near after → Inserts found map key value (Some at) before after
   inserts-new key h passed at value before mid near after some home few at_is free stored extends absent =
-      inserts-here key passed value before near after some few
+      subst (λ (x : ℕ). InsertsAt found map key x value before after) (sym (at_is ∙ ap (λ (x : ℕ). behind m x passed) home))
+      (inserts-here key passed value before near after some few
       (subst (λ (x : ℕ). FreeAt map x passed before before) home
       (subst (λ (xs : List Val). FreeAt map h passed before xs) free.same free))
       (subst (λ (x : ℕ). Stores found map x key value before near) (at_is ∙ ap (λ (x : ℕ). behind m x passed) home)
       (subst (λ (xs : List Val). Stores found map at key value xs near) free.same stored))
-      (subst (λ (x : ℕ). Extends map x (passed + 1) near after) home extends) absent
+      (subst (λ (x : ℕ). Extends map x (passed + 1) near after) home extends) absent)
 
   -- a key is taken out
   takes-here : (key : ℕ) (had : V) (before after : List Val) → 0 < m → item_of found map before key ≡ Some had →
@@ -504,33 +515,46 @@ module _ {V : Type 0} (found : Val → V) (map : HashMap V) where
       takes-here key had before after some (sym tells.is)
       (subst (λ (xs : List Val). ClearsAll map key xs after) tells.same clears)
 
-  -- a map is made
+  -- a map is made, and maybe more behind its cells
+  module _ (cells : ℕ) (kept : Val) (before after : List Val) (whole : after ≡ before ++ replicate cells kept)
+      (low : kept.low ≡ 0) (high : kept.high ≡ 0) (start : f ≡ length before) (many : 3 * m ≤ cells) (some : 0 < m) where
+    pub made-each : (x o : ℕ) → x < cells → o ≡ f + x → value_at after o ≡ kept
+    made-each x o less o_is =
+        ap (λ (xs : List Val). value_at xs o) whole ∙ ap (value_at (before ++ replicate cells kept)) (o_is ∙ ap (λ (a : ℕ). a + x) start)
+        ∙ get_or-append-add before (replicate cells kept) x no_value
+        ∙ get_or-replicate cells x kept no_value less
+
+    none : (h : ℕ) → h < m → reach_at map after h ≡ 0
+    none h here =
+        ap (λ (v : Val). cond (nat_lt (reach_of v) m) (reach_of v) m) (made-each h (f + h) (omega (arith, here, many)) refl)
+        ∙ zero_reach kept.low low
+      where
+        zero_reach : (a : ℕ) → a ≡ 0 → cond (nat_lt a m) a m ≡ 0
+        zero_reach a is = grind (arith, is, some)
+
+    unkeyed : (v : Val) → v.high ≡ 0 → key_of v ≡ None
+    unkeyed v is = ap (λ (h : ℕ). cond (h == 1) (Some v.low) None) is
+
+    pub made-unplaced : (key : ℕ) → place_in f m after key ≡ None
+    made-unplaced key =
+        ap (λ (r : ℕ). find m (key_at map after) key (home_in m key) 0 r) (none (home_in m key) (home-within m some key))
+
+    pub made-empty : (key : ℕ) → item_of found map after key ≡ None
+    made-empty key = ap (at_place (values_in found f m after)) (made-unplaced key)
+
+    pub made-free : (at : ℕ) → at < m → key_at map after at ≡ None
+    made-free at here =
+        ap key_of (made-each (m + at) (f + m + at) (omega (arith, here, many)) (omega arith)) ∙ unkeyed kept high
+
   pub makes : (cells : ℕ) (kept : Val) (before after : List Val) → after ≡ before ++ replicate cells kept →
       kept.low ≡ 0 → kept.high ≡ 0 → f ≡ length before → cells ≡ 3 * m → 0 < m → Adds found map before after
-  makes cells kept before after whole low high start count some = record {
-    added = replicate cells kept;
-    behind = whole;
-    first = start;
-    count = length-replicate cells kept ∙ count;
-    empty = λ key. ap (λ (r : ℕ). at_place (values_in found f m after) (find m (key_at map after) key (home_in m key) 0 r))
-        (none (home_in m key) (home-within m some key));
-    free = λ at here. ap key_of (stands (m + at) (f + m + at) (omega (arith, here)) (omega arith))
-        ∙ unkeyed kept high;
-  }
-    where
-      stands : (x o : ℕ) → x < 3 * m → o ≡ f + x → value_at after o ≡ kept
-      stands x o less o_is =
-          ap (λ (xs : List Val). value_at xs o) whole ∙ ap (value_at (before ++ replicate cells kept)) (o_is ∙ ap (λ (a : ℕ). a + x) start)
-          ∙ get_or-append-add before (replicate cells kept) x no_value
-          ∙ get_or-replicate cells x kept no_value (omega (arith, less, count))
-
-      none : (h : ℕ) → h < m → reach_at map after h ≡ 0
-      none h here =
-          ap (λ (v : Val). cond (nat_lt (reach_of v) m) (reach_of v) m) (stands h (f + h) (omega (arith, here)) refl)
-          ∙ zero_reach kept.low low
-        where
-          zero_reach : (a : ℕ) → a ≡ 0 → cond (nat_lt a m) a m ≡ 0
-          zero_reach a is = grind (arith, is, some)
-
-      unkeyed : (v : Val) → v.high ≡ 0 → key_of v ≡ None
-      unkeyed v is = ap (λ (h : ℕ). cond (h == 1) (Some v.low) None) is
+  makes cells kept before after whole low high start count some =
+      let many : 3 * m ≤ cells = omega (arith, count) in
+      record {
+        added = replicate cells kept;
+        behind = whole;
+        first = start;
+        count = length-replicate cells kept ∙ count;
+        empty = made-empty cells kept before after whole low high start many some;
+        free = made-free cells kept before after whole low high start many some;
+      }

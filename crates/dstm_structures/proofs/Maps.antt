@@ -77,25 +77,26 @@ module _ {V : Type 0} (found : Val → V) (first n : ℕ) (some : 0 < n) (before
       (is : values_in found first n after (behind n (home_in n key) i) ≡ value)
       (values : (q : ℕ) → q < n → (q ≡ behind n (home_in n key) i → ⊥) →
       values_in found first n after q ≡ values_in found first n before q) where
-    pub added-here : item_in found first n after key ≡ Some value
-    added-here =
-        ap (at_place (values_in found first n after))
-        (put-there n (home_in n) (keys_in first n before) (keys_in first n after) (reach_in first n before)
+    pub added-there : place_in first n after key ≡ Some (behind n (home_in n key) i)
+    added-there =
+        put-there n (home_in n) (keys_in first n before) (keys_in first n after) (reach_in first n before)
         (reach_in first n after) key i (home-within n some) (reach-most first n before) few absent free taken there others far
-        as_far)
-        ∙ ap Some is
+        as_far
+
+    pub added-here : item_in found first n after key ≡ Some value
+    added-here = ap (at_place (values_in found first n after)) added-there ∙ ap Some is
+
+    pub added-apart : (k : ℕ) → (k ≡ key → ⊥) → place_in first n after k ≡ place_in first n before k
+    added-apart k apart =
+        put-other n (home_in n) (keys_in first n before) (keys_in first n after) (reach_in first n before)
+        (reach_in first n after) key i (home-within n some) (reach-most first n before) few absent free taken there others
+        far as_far k apart
 
     pub added-other : (k : ℕ) → (k ≡ key → ⊥) → item_in found first n after k ≡ item_in found first n before k
     added-other k apart =
-        item-same k place (λ q at.
-        let holds = place-holds first n some after k q (place ∙ at) in
+        item-same k (added-apart k apart) (λ q at.
+        let holds = place-holds first n some after k q (added-apart k apart ∙ at) in
         values q holds.1 (λ e. apart (some_is k key (sym holds.0 ∙ ap (keys_in first n after) e ∙ there))))
-      where
-        place : place_in first n after k ≡ place_in first n before k
-        place =
-            put-other n (home_in n) (keys_in first n before) (keys_in first n after) (reach_in first n before)
-            (reach_in first n after) key i (home-within n some) (reach-most first n before) few absent free taken there others
-            far as_far k apart
 
   -- a key was taken out of each place at which it is looked for
   pub removed-here : (key : ℕ) →

@@ -1,5 +1,5 @@
 -- What two calls on a transaction have noted, one after the other.
-use Rattle.std.proofs.Common.{◌≡◌, ◌∙◌, ◌++◌, ◌∷◌, List, [], ap, append_assoc, refl, slice_set}
+use Rattle.std.proofs.Common.{◌≡◌, ◌∙◌, ◌++◌, ◌∷◌, List, [], ap, append-nil, append_assoc, refl, slice_set, sym}
 use Rattle.dstm_model.specs.declared.value.Val.{Val}
 use Rattle.dstm_cells.specs.Alternatives.{Noting, Notes, set_back}
 use Rattle.dstm_cells.specs.UnderWay.{seen}
@@ -12,6 +12,19 @@ set_back-append (undo ∷ first) later map =
     ap (λ (xs : List Val). slice_set xs undo.object undo.value) (set_back-append first later map)
 
 module _ {L : Type 0} (holds : L → List Val → Type 0) where
+  -- nothing was done
+  pub notes_still : (k : Noting L) → Notes holds k k
+  notes_still k = record {
+    keeps = refl;
+    same = refl;
+    noted = λ is. record {
+      added = [];
+      is = sym (append-nil k.undos);
+      narrows = λ map may. may;
+      back = λ map may. refl;
+    };
+  }
+
   pub notes_twice : (k m n : Noting L) → Notes holds k m → Notes holds m n → Notes holds k n
   notes_twice k m n one two = record {
     keeps = two.keeps ∙ one.keeps;

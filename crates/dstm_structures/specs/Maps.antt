@@ -115,6 +115,11 @@ module _ {V : Type 0} (map : HashMap V) where
   abbrev pub ClearsAll : (key : ℕ) → List Val → List Val → Type 0
   ClearsAll key before after = Clears key (reach_at before (homes key)) before after
 
+-- how a key was put that was not there, by the place into which it was put
+abbrev pub outcome : {V : Type 0} → Option ℕ → Placed V
+outcome None = Full
+outcome (Some at) = New
+
 -- ---- what the calls do
 
 module _ {V : Type 0} (found : Val → V) (map : HashMap V) where
@@ -151,10 +156,21 @@ module _ {V : Type 0} (found : Val → V) (map : HashMap V) where
   Puts key value (Instead had) before after = Makes key (Some value) (Some had) before after
   Puts key value Full before after = HasNoRoom key before after
 
-  -- what putting a key does that is not there
-  abbrev pub Inserts : ℕ → V → Placed V → List Val → List Val → Type 0
-  Inserts key value placed before after =
-      place_in map.cells.first map.cells.capacity before key ≡ None → Puts key value placed before after
+  -- a key was put into this place: it is found there, and every other key where it was
+  pub record InsertsAt (key at : ℕ) (value : V) (before after : List Val) : Type 0 where
+    pub makes : Makes key (Some value) None before after
+    pub there : place_in map.cells.first map.cells.capacity after key ≡ Some at
+    pub places : (k : ℕ) → k ≢ key →
+        place_in map.cells.first map.cells.capacity after k ≡ place_in map.cells.first map.cells.capacity before k
+
+  -- what putting a key does that is not there, by the place into which it was put
+  abbrev pub InsertsBy : ℕ → V → Option ℕ → List Val → List Val → Type 0
+  InsertsBy key value None before after = HasNoRoom key before after
+  InsertsBy key value (Some at) before after = InsertsAt key at value before after
+
+  abbrev pub Inserts : ℕ → V → Option ℕ → List Val → List Val → Type 0
+  Inserts key value place before after =
+      place_in map.cells.first map.cells.capacity before key ≡ None → InsertsBy key value place before after
 
   -- a key was put into a place with its value
   pub record Stores (at key : ℕ) (value : V) (before after : List Val) : Type 0 where

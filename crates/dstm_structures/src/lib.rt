@@ -4,7 +4,11 @@
 
 mod cells;
 mod map;
+mod order;
+mod ordered;
 mod queue;
+mod tips;
 
 pub use map::{HashMap, Placed};
+pub use ordered::OrderedMap;
 pub use queue::Queue;

@@ -3,7 +3,7 @@ ghost use Rattle.std.specs.Prelude.{◌≡◌, ◌+◌, ◌*◌, ◌<◌, ◌≤
 ghost use Rattle.dstm_cells.specs.Alternatives.{Notes, noting};
 ghost use Rattle.dstm_cells.specs.UnderWay.{Keeps};
 ghost use Rattle.dstm_structures.specs.Effects.{Does, Stops};
-ghost use Rattle.dstm_structures.specs.Maps.{Adds, ClearsAll, Empties, Extends, Frees, Inserts, Puts, Reaches, Removes, Seeks, Stores, Tells, TellsIf, end_of, home_in};
+ghost use Rattle.dstm_structures.specs.Maps.{Adds, ClearsAll, Empties, Extends, Frees, Inserts, Puts, Reaches, Removes, Seeks, Stores, Tells, TellsIf, end_of, home_in, outcome};
 ghost use Rattle.dstm_structures.specs.Places.{is_free, is_key};
 
 use crate::cells::{Rows, behind, cell, number};
@@ -97,8 +97,8 @@ impl<V: Word> HashMap<V> {
     {
         let found = self.find(tx, key)?;
         let Some(at) = found else {
-            let placed = self.insert(tx, key, value)?;
-            return Ok(placed);
+            let place = self.insert(tx, key, value)?;
+            return Ok(outcome(place));
         };
         let had = tx.replace(self.value_at(at), value)?;
         Ok(Placed::Instead(had))
@@ -120,8 +120,18 @@ impl<V: Word> HashMap<V> {
         Ok(Some(value))
     }
 
+    // The map whose cells these are.
+    pub(crate) fn of_cells(cells: Rows) -> HashMap<V>
+        ensures { result.cells ≡ cells }
+    {
+        HashMap {
+            cells,
+            holds: PhantomData,
+        }
+    }
+
     // The place of a key, if it is there.
-    fn find<L: Law>(self, tx: &mut Tx<'_, L>, key: u64) -> Result<Option<u32>, Stop>
+    pub(crate) fn find<L: Law>(self, tx: &mut Tx<'_, L>, key: u64) -> Result<Option<u32>, Stop>
         ensures keeps { Keeps tx.old.attempts.caller tx.new.attempts.caller }
         ensures notes { Notes L.holds (noting tx.old) (noting tx.new) }
         ensures stops { IfErr result (λ stop. Stops (end_of self) false tx.old.attempts.caller stop.why) }
@@ -141,22 +151,29 @@ impl<V: Word> HashMap<V> {
         Ok(None)
     }
 
-    // Puts a key that is not there into the first free place from its home on.
-    fn insert<L: Law>(self, tx: &mut Tx<'_, L>, key: u64, value: V) -> Result<Placed<V>, Stop>
+    // Puts a key that is not there into the first free place from its home on, and answers it.
+    pub(crate) fn insert<L: Law>(
+        self,
+        tx: &mut Tx<'_, L>,
+        key: u64,
+        value: V,
+    ) -> Result<Option<u32>, Stop>
         ensures keeps { Keeps tx.old.attempts.caller tx.new.attempts.caller }
         ensures notes { Notes L.holds (noting tx.old) (noting tx.new) }
         ensures stops { IfErr result (λ stop. Stops (end_of self) tx.old.notes tx.old.attempts.caller stop.why) }
-        ensures inserts { IfOk result (λ placed. Does L.holds (end_of self) (Inserts V.found self key value placed)
+        ensures within { IfOk result (λ place. IfSome place (λ at. at < self.cells.capacity)) }
+        ensures inserts { IfOk result (λ place. Does L.holds (end_of self) (Inserts V.found self key value place)
             tx.old.attempts.caller tx.new.attempts.caller) }
     {
         let home = self.home(key);
         let free = self.free(tx, home)?;
         let Some(passed) = free else {
-            return Ok(Placed::Full);
+            return Ok(None);
         };
-        self.store(tx, behind(self.cells.capacity, home, passed), key, value)?;
+        let at = behind(self.cells.capacity, home, passed);
+        self.store(tx, at, key, value)?;
         self.extend(tx, home, passed + 1)?;
-        Ok(Placed::New)
+        Ok(Some(at))
     }
 
     // How far behind a home the first place is that is free for keys of this home.
@@ -212,7 +229,7 @@ impl<V: Word> HashMap<V> {
     }
 
     // Takes a key out of each place at which it is looked for.
-    fn clear<L: Law>(self, tx: &mut Tx<'_, L>, key: u64) -> Result<(), Stop>
+    pub(crate) fn clear<L: Law>(self, tx: &mut Tx<'_, L>, key: u64) -> Result<(), Stop>
         ensures keeps { Keeps tx.old.attempts.caller tx.new.attempts.caller }
         ensures notes { Notes L.holds (noting tx.old) (noting tx.new) }
         ensures stops { IfErr result (λ stop. Stops (end_of self) tx.old.notes tx.old.attempts.caller stop.why) }
@@ -290,7 +307,7 @@ impl<V: Word> HashMap<V> {
     }
 
     // The cell that tells the key of a place.
-    fn key_at(self, at: u32) -> Cell<Option<u64>>
+    pub(crate) fn key_at(self, at: u32) -> Cell<Option<u64>>
         requires { at < self.cells.capacity }
         ensures { result.object ≡ self.cells.first + self.cells.capacity + at }
     {
@@ -298,7 +315,7 @@ impl<V: Word> HashMap<V> {
     }
 
     // The cell that holds the value of a place.
-    fn value_at(self, at: u32) -> Cell<V>
+    pub(crate) fn value_at(self, at: u32) -> Cell<V>
         requires { at < self.cells.capacity }
         ensures { result.object ≡ self.cells.first + 2 * self.cells.capacity + at }
     {
@@ -313,5 +330,15 @@ fn is_key(key: u64, held: Option<u64>) -> bool
     match held {
         Some(held) => held == key,
         None => false,
+    }
+}
+
+// How a key was put that was not there, by the place into which it was put.
+fn outcome<V: Word>(place: Option<u32>) -> Placed<V>
+    ensures { result ≡ outcome place }
+{
+    match place {
+        Some(_) => Placed::New,
+        None => Placed::Full,
     }
 }

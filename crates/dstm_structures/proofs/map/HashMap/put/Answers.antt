@@ -9,27 +9,27 @@ use Rattle.dstm_structures.proofs.Mapping.{puts-absent, puts-instead}
 use Rattle.dstm_structures.proofs.Noting.{notes_twice}
 use Rattle.dstm_structures.proofs.map.HashMap.put.Goals as goal
 
-pub returns-in_err-placed-clause-notes : goal.returns-in_err-placed-clause-notes
-returns-in_err-placed-clause-notes g c =
+pub returns-in_err-place-clause-notes : goal.returns-in_err-place-clause-notes
+returns-in_err-place-clause-notes g c =
     notes_twice g.L.Law.holds (noting c.args.tx.now) (noting c.find.new.tx) (noting c.insert.new.tx)
-    c.in_ok-found.ensures.notes c.in_err-placed.ensures.notes
+    c.in_ok-found.ensures.notes c.in_err-place.ensures.notes
 
 pub returns-in_default-clause-notes : goal.returns-in_default-clause-notes
 returns-in_default-clause-notes g c =
     notes_twice g.L.Law.holds (noting c.args.tx.now) (noting c.find.new.tx) (noting c.insert.new.tx)
-    c.in_ok-found.ensures.notes c.in_ok-placed.ensures.notes
+    c.in_ok-found.ensures.notes c.in_ok-place.ensures.notes
 
 pub returns-in_default-clause-puts : goal.returns-in_default-clause-puts
 returns-in_default-clause-puts g c =
     does-then g.L.Law.holds (end_of c.args.self) (Seeks c.args.self c.args.key None)
-    (Inserts g.V.Word.found c.args.self c.args.key c.args.value c.in_ok-placed.placed)
-    (Puts g.V.Word.found c.args.self c.args.key c.args.value c.in_ok-placed.placed) c.args.tx.now.attempts.caller
+    (Inserts g.V.Word.found c.args.self c.args.key c.args.value c.in_ok-place.place)
+    (Puts g.V.Word.found c.args.self c.args.key c.args.value c.outcome.result) c.args.tx.now.attempts.caller
     c.find.new.tx.attempts.caller c.insert.new.tx.attempts.caller c.in_ok-found.ensures.keeps
     (subst (λ (place : Option ℕ). Does g.L.Law.holds (end_of c.args.self) (Seeks c.args.self c.args.key place)
     c.args.tx.now.attempts.caller c.find.new.tx.attempts.caller) c.in_default.is c.in_ok-found.ensures.seeks)
-    c.in_ok-placed.ensures.inserts
-    (λ before mid after size. puts-absent g.V.Word.found c.args.self c.args.key c.args.value c.in_ok-placed.placed before mid
-    after)
+    c.in_ok-place.ensures.inserts
+    (λ before mid after size. puts-absent g.V.Word.found c.args.self c.args.key c.args.value c.in_ok-place.place
+    c.outcome.result before mid after c.outcome.ensures)
 
 pub returns-in_err-had-clause-notes : goal.returns-in_err-had-clause-notes
 returns-in_err-had-clause-notes g c =

@@ -1,0 +1,201 @@
+-- What an ordered map tells of its keys where its cells are in order, and what keeps them in order.
+use Rattle.std.proofs.Common.{◌≡◌, ◌∙◌, ℕ, ◌+◌, ◌*◌, ◌<◌, ◌≤◌, true, false, List, ap, arith, cond, refl, sym, subst, ◌⊎◌, inl, inr, nat_lt}
+use Rattle.std.specs.Prelude.{Option, None, Some}
+use Rattle.dstm_model.specs.declared.value.Val.{Val}
+use Rattle.dstm_model.specs.Map.{value_at}
+use Rattle.dstm_structures.specs.Places.{is_key}
+use Rattle.dstm_structures.specs.Maps.{at_place, item_of, key_of, keys_in, place_in, reach_of, values_in}
+use Rattle.dstm_structures.specs.Ordered.{IsFirst, IsFirstAbove, IsInOrder, IsLast, Looks, TellsAbove, TellsFirst, TellsLast, entry_at, entry_of}
+use Rattle.dstm_structures.specs.Orders.{Trie, tip, fork, Has, EndsAll, FollowsAll, Holds, IsEdge, IsNext, IsOrdered, IsOrderedBy, forks_in, left_in, level_in, low_of, order_end, right_in, root_in, words_of}
+use Rattle.dstm_structures.specs.declared.ordered.OrderedMap.{OrderedMap}
+use Rattle.dstm_structures.proofs.Maps.{place-holds, place-kept}
+use Rattle.dstm_structures.proofs.Places.{none_not}
+
+-- ---- what cells hold that tell the same of forks, and the keys of the tips
+
+pub holds-by : (n : ℕ) (keys keys_after : ℕ → Option ℕ) (forks forks_after : ℕ → ℕ × ℕ) →
+    ((p : ℕ) → p < n → forks_after p ≡ forks p) → (t : Trie) → ((p k : ℕ) → Has p k t → keys_after p ≡ Some k) →
+    Holds n keys forks t → Holds n keys_after forks_after t
+holds-by n keys keys_after forks forks_after same (tip p k) told held = (held.0, told p k (refl, refl))
+holds-by n keys keys_after forks forks_after same (fork p j q l r) told held =
+    let is : forks_after p ≡ forks p = same p held.0 in (
+      held.0,
+      ap (λ (x : ℕ × ℕ). level_in x.1) is ∙ held.1,
+      ap (λ (x : ℕ × ℕ). x.0) is ∙ held.2,
+      ap (λ (x : ℕ × ℕ). left_in x.1) is ∙ held.3,
+      ap (λ (x : ℕ × ℕ). right_in x.1) is ∙ held.4,
+      holds-by n keys keys_after forks forks_after same l (λ a k h. told a k (inl h)) held.5,
+      holds-by n keys keys_after forks forks_after same r (λ a k h. told a k (inr h)) held.6,
+    )
+
+module _ (first n : ℕ) (some : 0 < n) where
+  -- each key that is found is found where it was
+  pub record SamePlaces (before after : List Val) : Type 0 where
+    pub places : (k : ℕ) → place_in first n after k ≡ place_in first n before k
+
+  -- where roots, forks and places are the same, cells that were in order are
+  pub order-kept : (before after : List Val) → root_in first n after ≡ root_in first n before →
+      ((p : ℕ) → p < n → forks_in first n after p ≡ forks_in first n before p) →
+      ((k : ℕ) → place_in first n after k ≡ place_in first n before k) →
+      IsOrdered first n before → IsOrdered first n after
+  order-kept before after root forks places (inl bare) =
+      inl (record { root = root ∙ bare.root; none = λ k. places k ∙ bare.none k })
+  order-kept before after root forks places (inr (t, by)) =
+      inr (
+        t,
+        record {
+          root = root ∙ by.root;
+          held = holds-by n (keys_in first n before) (keys_in first n after) (forks_in first n before) (forks_in first n after)
+              forks t (λ a k h. (place-holds first n some after k a (places k ∙ by.there a k h)).0) by.held;
+          split = by.split;
+          there = λ a k h. places k ∙ by.there a k h;
+          all = λ a k at. by.all a k (sym (places k) ∙ at);
+        },
+      )
+
+  -- where a change sets nothing of the order, and no cell that tells keys or how far they are looked for
+  pub order-apart : {V : Type 0} (found : Val → V) (before after : List Val) →
+      ((o : ℕ) → first ≤ o → o < first + 4 * n + 1 → (o < first + 2 * n) ⊎ (first + 3 * n ≤ o) →
+      value_at after o ≡ value_at before o) → IsOrdered first n before → IsOrdered first n after
+  order-apart found before after same order =
+      order-kept before after (ap low_of (same (first + 3 * n) (omega arith) (omega (arith, some)) (inr (omega arith))))
+      (λ p here. ap words_of (same (first + 3 * n + 1 + p) (omega arith) (omega (arith, here)) (inr (omega arith))))
+      (λ k. place-kept found first n some before after k
+      (λ q below. ap (λ (v : Val). is_key k (key_of v))
+      (same (first + n + q) (omega arith) (omega (arith, below)) (inl (omega (arith, below)))))
+      (λ h below. ap (λ (v : Val). cond (nat_lt (reach_of v) n) (reach_of v) n)
+      (same (first + h) (omega arith) (omega (arith, below)) (inl (omega (arith, below))))))
+      order
+
+module _ {V : Type 0} (found : Val → V) (map : OrderedMap V) where
+  abbrev f : ℕ
+  f = map.map.cells.first
+
+  abbrev n : ℕ
+  n = map.map.cells.capacity
+
+  -- A CHANGE OF NO CELL OF THE MAP KEEPS THE CELLS IN ORDER
+  pub stays-in-order : (before after : List Val) →
+      ((o : ℕ) → f ≤ o → o < order_end map.map.cells → value_at after o ≡ value_at before o) →
+      IsInOrder map before → IsInOrder map after
+  stays-in-order before after same order =
+      order-apart f n map.map.cells.some found before after (λ o from until where_it. same o from until) order
+
+  -- ---- what the places of a trie hold
+
+  -- a key without a place has no item
+  pub no-item : (values : List Val) (k : ℕ) → ((q : ℕ) → place_in f n values k ≡ Some q → ⊥) →
+      item_of found map.map values k ≡ None
+  no-item values k none = by (place_in f n values k) none
+    where
+      by : (o : Option ℕ) → ((q : ℕ) → o ≡ Some q → ⊥) → at_place (values_in found f n values) o ≡ None
+      by None never = refl
+      by (Some q) never = absurd (never q refl)
+
+  -- and a key without an item has no place
+  pub no-place : (values : List Val) (k : ℕ) → item_of found map.map values k ≡ None → place_in f n values k ≡ None
+  no-place values k none = by (place_in f n values k) none
+    where
+      by : (o : Option ℕ) → at_place (values_in found f n values) o ≡ None → o ≡ None
+      by None e = refl
+      by (Some q) e = absurd (none_not (values_in found f n values q) (sym e))
+
+  module _ (t : Trie) (values : List Val) (by : IsOrderedBy f n t values) where
+    -- a key that a trie does not have has no item
+    pub unhad : (k : ℕ) → ((q : ℕ) → Has q k t → ⊥) → item_of found map.map values k ≡ None
+    unhad k none = no-item values k (λ q at. none q (by.all q k at))
+
+    -- the item of a key that stands at a place of the trie
+    had : (at key : ℕ) → Has at key t → item_of found map.map values key ≡ Some (values_in found f n values at)
+    had at key h = ap (at_place (values_in found f n values)) (by.there at key h)
+
+    -- what was seen at this place
+    seen-at : (at key : ℕ) (answer : Option (ℕ × V)) → Has at key t → answer ≡ entry_at found map values (Some at) →
+        answer ≡ Some (key, values_in found f n values at)
+    seen-at at key answer h is =
+        is ∙ ap (λ (o : Option ℕ). entry_of found map o (values_in found f n values at))
+        (place-holds f n map.map.cells.some values key at (by.there at key h)).0
+
+    first-by : (place : Option ℕ) (answer : Option (ℕ × V)) → IsEdge false place t → answer ≡ entry_at found map values place →
+        IsFirst found map answer values
+    first-by None answer e is = absurd e
+    first-by (Some at) answer e is =
+        subst (λ (a : Option (ℕ × V)). IsFirst found map a values) (sym (seen-at at e.0 answer e.1 is))
+        (had at e.0 e.1, λ k less. unhad k (λ q h. omega (arith, less, e.2 q k h)))
+
+    last-by : (place : Option ℕ) (answer : Option (ℕ × V)) → IsEdge true place t → answer ≡ entry_at found map values place →
+        IsLast found map answer values
+    last-by None answer e is = absurd e
+    last-by (Some at) answer e is =
+        subst (λ (a : Option (ℕ × V)). IsLast found map a values) (sym (seen-at at e.0 answer e.1 is))
+        (had at e.0 e.1, λ k more. unhad k (λ q h. omega (arith, more, e.2 q k h)))
+
+    above-by : (key : ℕ) (place : Option ℕ) (answer : Option (ℕ × V)) → IsNext key place t →
+        answer ≡ entry_at found map values place → IsFirstAbove found map key answer values
+    above-by key None answer next is =
+        subst (λ (a : Option (ℕ × V)). IsFirstAbove found map key a values) (sym is)
+        (λ k more. unhad k (λ q h. omega (arith, more, next q k h)))
+    above-by key (Some at) answer next is =
+        subst (λ (a : Option (ℕ × V)). IsFirstAbove found map key a values) (sym (seen-at at next.0 answer next.1 is)) (
+          had at next.0 next.1,
+          next.2,
+          λ k more less. unhad k (λ q h. omega (arith, less, next.3 q k h more)),
+        )
+
+  -- ---- what is told
+
+  -- what was seen is what was there before
+  seen-before : (place : Option ℕ) (answer : Option (ℕ × V)) (before mid after : List Val) → mid ≡ before →
+      Looks found map place answer mid after → answer ≡ entry_at found map before place
+  seen-before place answer before mid after same l =
+      l.is ∙ ap (λ (v : List Val). entry_at found map v place) same
+
+  -- where nothing is found, nothing is told
+  nothing-at : (place : Option ℕ) (answer : Option (ℕ × V)) (values : List Val) → place ≡ None →
+      answer ≡ entry_at found map values place → answer ≡ None
+  nothing-at place answer values none is = is ∙ ap (entry_at found map values) none
+
+  pub tells-first : (place : Option ℕ) (answer : Option (ℕ × V)) (before mid after : List Val) →
+      EndsAll map.map.cells false place before mid → Looks found map place answer mid after →
+      TellsFirst found map answer before after
+  tells-first place answer before mid after e l = record { is = λ order. by order; same = l.same ∙ e.same }
+    where
+      is : answer ≡ entry_at found map before place
+      is = seen-before place answer before mid after e.same l
+
+      by : IsInOrder map before → IsFirst found map answer before
+      by (inl bare) =
+          subst (λ (a : Option (ℕ × V)). IsFirst found map a before)
+          (sym (nothing-at place answer before (e.bare bare.root) is))
+          (λ k. ap (at_place (values_in found f n before)) (bare.none k))
+      by (inr (t, o)) = first-by t before o place answer (e.is t o) is
+
+  pub tells-last : (place : Option ℕ) (answer : Option (ℕ × V)) (before mid after : List Val) →
+      EndsAll map.map.cells true place before mid → Looks found map place answer mid after →
+      TellsLast found map answer before after
+  tells-last place answer before mid after e l = record { is = λ order. by order; same = l.same ∙ e.same }
+    where
+      is : answer ≡ entry_at found map before place
+      is = seen-before place answer before mid after e.same l
+
+      by : IsInOrder map before → IsLast found map answer before
+      by (inl bare) =
+          subst (λ (a : Option (ℕ × V)). IsLast found map a before)
+          (sym (nothing-at place answer before (e.bare bare.root) is))
+          (λ k. ap (at_place (values_in found f n before)) (bare.none k))
+      by (inr (t, o)) = last-by t before o place answer (e.is t o) is
+
+  pub tells-above : (key : ℕ) (place : Option ℕ) (answer : Option (ℕ × V)) (before mid after : List Val) →
+      FollowsAll map.map.cells key place before mid → Looks found map place answer mid after →
+      TellsAbove found map key answer before after
+  tells-above key place answer before mid after e l = record { is = λ order. by order; same = l.same ∙ e.same }
+    where
+      is : answer ≡ entry_at found map before place
+      is = seen-before place answer before mid after e.same l
+
+      by : IsInOrder map before → IsFirstAbove found map key answer before
+      by (inl bare) =
+          subst (λ (a : Option (ℕ × V)). IsFirstAbove found map key a before)
+          (sym (nothing-at place answer before (e.bare bare.root) is))
+          (λ k more. ap (at_place (values_in found f n before)) (bare.none k))
+      by (inr (t, o)) = above-by t before o key place answer (e.is t o) is

@@ -1,0 +1,179 @@
+-- A trie of keys gets a tip less.
+use Rattle.std.proofs.Common.{◌≡◌, ◌∙◌, ℕ, ◌+◌, ◌*◌, ◌/◌, ◌^◌, ◌<◌, List, ap, arith, refl, sym, inl, inr}
+use Rattle.dstm_model.specs.declared.value.Val.{Val}
+use Rattle.dstm_structures.specs.Orders.{Below, Has, Holds, HoldsIn, Trie, fork, link_to, tip}
+use Rattle.dstm_structures.specs.Tips.{LeavesNone, LeavesRest, Loses, TellsFork, Uses, key_told, words_at}
+use Rattle.dstm_structures.specs.declared.cells.Rows.{Rows}
+use Rattle.dstm_structures.proofs.Orders.{below-key}
+use Rattle.dstm_structures.proofs.Tries.{far_held, half_even, half_odd, near_held, widen}
+
+-- keys with other bits differ
+parted : (j y z a k : ℕ) → (y ≡ z → ⊥) → a / 2 ^ j ≡ y → k / 2 ^ j ≡ z → k ≡ a → ⊥
+parted j y z a k apart one other same =
+    apart (sym one ∙ sym (ap (λ (x : ℕ). x / 2 ^ j) same) ∙ other)
+
+-- a trie that is the tip
+pub loses_tip : (cells : Rows) (key at under bits p k : ℕ) (before after : List Val) → Has at key (tip p k) → after ≡ before →
+    Loses cells key at under bits 0 (tip p k) before after
+loses_tip cells key at under bits p k before after has same = record {
+  left = inl (record { is = refl; alone = λ a h there. (sym there.0 ∙ has.0, sym there.1 ∙ has.1) });
+  stays = λ c off. ap (λ (xs : List Val). words_at cells xs c) same;
+}
+
+module _ (cells : Rows) (key at under bits number p j q link : ℕ) (l r : Trie) (before mid after : List Val)
+    (held : HoldsIn cells.first cells.capacity before (fork p j q l r)) (b : Below under bits (fork p j q l r))
+    (is : number ≡ 2 * p + 2)
+    (same : (p : ℕ) → p < cells.capacity → key_told cells mid p ≡ key_told cells before p)
+    (same_on : (p : ℕ) → p < cells.capacity → key_told cells after p ≡ key_told cells mid p)
+    (others : (c : ℕ) → (c ≡ p → ⊥) → words_at cells after c ≡ words_at cells mid c) where
+  abbrev t : Trie
+  t = fork p j q l r
+
+  even_odd : 2 * q ≡ 2 * q + 1 → ⊥
+  even_odd e = omega (arith, e)
+
+  odd_even : 2 * q + 1 ≡ 2 * q → ⊥
+  odd_even e = omega (arith, e)
+
+  -- The left side keeps other tips.
+  module _ (even : key / 2 ^ j ≡ 2 * q) (g : LeavesRest cells key j (2 * q) link l mid)
+      (stays : (c : ℕ) → (Uses c l → ⊥) → words_at cells mid c ≡ words_at cells before c)
+      (tells : TellsFork p j q link (link_to r) (words_at cells after)) where
+    near_left : Holds cells.capacity (key_told cells after) (words_at cells after) g.rest
+    near_left =
+        near_held cells.capacity (key_told cells before) (key_told cells mid) (key_told cells after) (words_at cells before)
+        (words_at cells mid) (words_at cells after) p j l (2 * q) (λ c. ⊥) held.1 b.2 held.5 same_on others
+        g.rest (λ c e is_p. e) (λ c used. inl (g.uses c used)) g.held
+
+    far_left : Holds cells.capacity (key_told cells after) (words_at cells after) r
+    far_left =
+        far_held cells.capacity (key_told cells before) (key_told cells mid) (key_told cells after) (words_at cells before)
+        (words_at cells mid) (words_at cells after) p j l (2 * q) (λ c. ⊥) held.1 b.2 held.5 same_on others
+        r (2 * q + 1) even_odd b.3 held.6 same (λ c e used. e) (λ c off new. stays c off)
+
+    kept_left : (a k : ℕ) → Has a k t → (k ≡ key → ⊥) → Has a k (fork p j q g.rest r)
+    kept_left a k (inl has) other = inl (g.kept a k has other)
+    kept_left a k (inr has) other = inr has
+
+    no_more_left : (a k : ℕ) → Has a k (fork p j q g.rest r) → Has a k t × (k ≡ key → ⊥)
+    no_more_left a k (inl has) = let had = g.no_more a k has in (inl had.0, had.1)
+    no_more_left a k (inr has) =
+        (inr has, parted j (2 * q) (2 * q + 1) key k even_odd even (below-key j (2 * q + 1) r b.3 a k has))
+
+    uses_left : (c : ℕ) → Uses c (fork p j q g.rest r) → Uses c t
+    uses_left c (inl e) = inl e
+    uses_left c (inr (inl used)) = inr (inl (g.uses c used))
+    uses_left c (inr (inr used)) = inr (inr used)
+
+    pub loses_left : Loses cells key at under bits number t before after
+    loses_left = record {
+      left = inr (record {
+        rest = fork p j q g.rest r;
+        is = is;
+        held = (held.0, tells.level_is, tells.prefix_is, tells.left_is ∙ g.is, tells.right_is, near_left, far_left);
+        below = (b.0, b.1, g.below, b.3);
+        kept = kept_left;
+        no_more = no_more_left;
+        uses = uses_left;
+      });
+      stays = λ c off. others c (λ e. off (inl e)) ∙ stays c (λ used. off (inr (inl used)));
+    }
+
+  -- The right side keeps other tips.
+  module _ (odd : key / 2 ^ j ≡ 2 * q + 1) (g : LeavesRest cells key j (2 * q + 1) link r mid)
+      (stays : (c : ℕ) → (Uses c r → ⊥) → words_at cells mid c ≡ words_at cells before c)
+      (tells : TellsFork p j q (link_to l) link (words_at cells after)) where
+    near_right : Holds cells.capacity (key_told cells after) (words_at cells after) g.rest
+    near_right =
+        near_held cells.capacity (key_told cells before) (key_told cells mid) (key_told cells after) (words_at cells before)
+        (words_at cells mid) (words_at cells after) p j r (2 * q + 1) (λ c. ⊥) held.1 b.3 held.6 same_on others
+        g.rest (λ c e is_p. e) (λ c used. inl (g.uses c used)) g.held
+
+    far_right : Holds cells.capacity (key_told cells after) (words_at cells after) l
+    far_right =
+        far_held cells.capacity (key_told cells before) (key_told cells mid) (key_told cells after) (words_at cells before)
+        (words_at cells mid) (words_at cells after) p j r (2 * q + 1) (λ c. ⊥) held.1 b.3 held.6 same_on others
+        l (2 * q) odd_even b.2 held.5 same (λ c e used. e) (λ c off new. stays c off)
+
+    kept_right : (a k : ℕ) → Has a k t → (k ≡ key → ⊥) → Has a k (fork p j q l g.rest)
+    kept_right a k (inl has) other = inl has
+    kept_right a k (inr has) other = inr (g.kept a k has other)
+
+    no_more_right : (a k : ℕ) → Has a k (fork p j q l g.rest) → Has a k t × (k ≡ key → ⊥)
+    no_more_right a k (inl has) =
+        (inl has, parted j (2 * q + 1) (2 * q) key k odd_even odd (below-key j (2 * q) l b.2 a k has))
+    no_more_right a k (inr has) = let had = g.no_more a k has in (inr had.0, had.1)
+
+    uses_right : (c : ℕ) → Uses c (fork p j q l g.rest) → Uses c t
+    uses_right c (inl e) = inl e
+    uses_right c (inr (inl used)) = inr (inl used)
+    uses_right c (inr (inr used)) = inr (inr (g.uses c used))
+
+    pub loses_right : Loses cells key at under bits number t before after
+    loses_right = record {
+      left = inr (record {
+        rest = fork p j q l g.rest;
+        is = is;
+        held = (held.0, tells.level_is, tells.prefix_is, tells.left_is, tells.right_is ∙ g.is, far_right, near_right);
+        below = (b.0, b.1, b.2, g.below);
+        kept = kept_right;
+        no_more = no_more_right;
+        uses = uses_right;
+      });
+      stays = λ c off. others c (λ e. off (inl e)) ∙ stays c (λ used. off (inr (inr used)));
+    }
+
+  -- A side has no other tip: the other side stays, and the fork's cell is free.
+  module _ (g : LeavesNone cells key at link l) (even : key / 2 ^ j ≡ 2 * q)
+      (stays : (c : ℕ) → (Uses c l → ⊥) → words_at cells mid c ≡ words_at cells before c) where
+    right_held : Holds cells.capacity (key_told cells after) (words_at cells after) r
+    right_held =
+        far_held cells.capacity (key_told cells before) (key_told cells mid) (key_told cells after) (words_at cells before)
+        (words_at cells mid) (words_at cells after) p j l (2 * q) (λ c. ⊥) held.1 b.2 held.5 same_on others
+        r (2 * q + 1) even_odd b.3 held.6 same (λ c e used. e) (λ c off new. stays c off)
+
+    kept_on_right : (a k : ℕ) → Has a k t → (k ≡ key → ⊥) → Has a k r
+    kept_on_right a k (inl has) other = absurd (other (g.alone a k has).1)
+    kept_on_right a k (inr has) other = has
+
+    pub loses_all_left : Loses cells key at under bits (link_to r) t before after
+    loses_all_left = record {
+      left = inr (record {
+        rest = r;
+        is = refl;
+        held = right_held;
+        below = widen j q under bits (2 * q + 1) b.0 b.1 (half_odd q) r b.3;
+        kept = kept_on_right;
+        no_more = λ a k has.
+            (inr has, parted j (2 * q) (2 * q + 1) key k even_odd even (below-key j (2 * q + 1) r b.3 a k has));
+        uses = λ c used. inr (inr used);
+      });
+      stays = λ c off. others c (λ e. off (inl e)) ∙ stays c (λ used. off (inr (inl used)));
+    }
+
+  module _ (g : LeavesNone cells key at link r) (odd : key / 2 ^ j ≡ 2 * q + 1)
+      (stays : (c : ℕ) → (Uses c r → ⊥) → words_at cells mid c ≡ words_at cells before c) where
+    left_held : Holds cells.capacity (key_told cells after) (words_at cells after) l
+    left_held =
+        far_held cells.capacity (key_told cells before) (key_told cells mid) (key_told cells after) (words_at cells before)
+        (words_at cells mid) (words_at cells after) p j r (2 * q + 1) (λ c. ⊥) held.1 b.3 held.6 same_on others
+        l (2 * q) odd_even b.2 held.5 same (λ c e used. e) (λ c off new. stays c off)
+
+    kept_on_left : (a k : ℕ) → Has a k t → (k ≡ key → ⊥) → Has a k l
+    kept_on_left a k (inl has) other = has
+    kept_on_left a k (inr has) other = absurd (other (g.alone a k has).1)
+
+    pub loses_all_right : Loses cells key at under bits (link_to l) t before after
+    loses_all_right = record {
+      left = inr (record {
+        rest = l;
+        is = refl;
+        held = left_held;
+        below = widen j q under bits (2 * q) b.0 b.1 (half_even q) l b.2;
+        kept = kept_on_left;
+        no_more = λ a k has.
+            (inl has, parted j (2 * q + 1) (2 * q) key k odd_even odd (below-key j (2 * q) l b.2 a k has));
+        uses = λ c used. inr (inl used);
+      });
+      stays = λ c off. others c (λ e. off (inl e)) ∙ stays c (λ used. off (inr (inr used)));
+    }

@@ -1,0 +1,60 @@
+use Rattle.std.proofs.Common.{◌∙◌, ℕ, ◌+◌, ◌*◌, ◌/◌, ◌^◌, refl, subst, sym}
+use Rattle.std.specs.Prelude.{Option}
+use Rattle.dstm_cells.specs.Alternatives.{noting}
+use Rattle.dstm_structures.specs.Effects.{Does}
+use Rattle.dstm_structures.specs.Maps.{key_of}
+use Rattle.dstm_structures.specs.Orders.{order_end}
+use Rattle.dstm_structures.specs.Tips.{AddsBeside, SetsFork}
+use Rattle.dstm_structures.proofs.Doing.{Reads, does-as, does-read, does-then}
+use Rattle.dstm_structures.proofs.Noting.{notes_twice}
+use Rattle.dstm_structures.proofs.Places.{some_is}
+use Rattle.dstm_structures.proofs.Tipping.{beside_none, beside_set}
+use Rattle.dstm_structures.proofs.order.Order.add_beside.Goals as goal
+
+pub returns-then-other-added-clause-adds : goal.returns-then-other-added-clause-adds
+returns-then-other-added-clause-adds g c =
+    let added = c.args.added in
+    subst (λ (now : ℕ). Does g.L.Law.holds (order_end c.args.self.cells)
+    (AddsBeside c.args.self.cells added.key added.at added.cell c.args.place now) c.args.tx.now.attempts.caller
+    c.get.new.self.attempts.caller) (sym c.to_tip-then-other-added.ensures)
+    (does-as g.L.Law.holds (order_end c.args.self.cells) (Reads key_of c.key_at.result.object c.in_ok-held.held)
+    (AddsBeside c.args.self.cells added.key added.at added.cell c.args.place (2 * c.args.place + 1))
+    c.args.tx.now.attempts.caller c.get.new.self.attempts.caller
+    (does-read g.L.Law.holds (order_end c.args.self.cells) key_of c.args.tx.now.attempts.caller
+    c.get.new.self.attempts.caller c.key_at.result.object c.in_ok-held.held c.in_ok-held.ensures.gets)
+    (λ before after size reads. beside_none c.args.self.cells added.key added.at added.cell c.args.place
+    c.key_at.result.object c.in_ok-held.held before after c.key_at.ensures
+    (λ k e. some_is k c.in-Some.other (sym e ∙ c.in-Some.is) ∙ c.if-other-added.true) reads))
+
+pub returns-in_err-set_fork-clause-notes : goal.returns-in_err-set_fork-clause-notes
+returns-in_err-set_fork-clause-notes g c =
+    notes_twice g.L.Law.holds (noting c.args.tx.now) (noting c.get.new.self) (noting c.set_fork.new.tx)
+    c.in_ok-held.ensures.notes c.in_err-set_fork.ensures.notes
+
+pub returns-clause-notes : goal.returns-clause-notes
+returns-clause-notes g c =
+    notes_twice g.L.Law.holds (noting c.args.tx.now) (noting c.get.new.self) (noting c.set_fork.new.tx)
+    c.in_ok-held.ensures.notes c.in_ok-set_fork.ensures.notes
+
+pub returns-clause-adds : goal.returns-clause-adds
+returns-clause-adds g c =
+    let added = c.args.added in
+    let level = c.parting-level.result in
+    subst (λ (now : ℕ). Does g.L.Law.holds (order_end c.args.self.cells)
+    (AddsBeside c.args.self.cells added.key added.at added.cell c.args.place now) c.args.tx.now.attempts.caller
+    c.set_fork.new.tx.attempts.caller) (sym c.to_fork.ensures)
+    (does-then g.L.Law.holds (order_end c.args.self.cells) (Reads key_of c.key_at.result.object c.in_ok-held.held)
+    (SetsFork c.args.self.cells added.cell c.parted-fork.result)
+    (AddsBeside c.args.self.cells added.key added.at added.cell c.args.place (2 * added.cell + 2))
+    c.args.tx.now.attempts.caller c.get.new.self.attempts.caller c.set_fork.new.tx.attempts.caller
+    c.in_ok-held.ensures.keeps
+    (does-read g.L.Law.holds (order_end c.args.self.cells) key_of c.args.tx.now.attempts.caller
+    c.get.new.self.attempts.caller c.key_at.result.object c.in_ok-held.held c.in_ok-held.ensures.gets)
+    c.in_ok-set_fork.ensures.sets
+    (λ before mid after size reads sets. beside_set c.args.self.cells added.key added.at added.cell c.args.place
+    c.key_at.result.object c.in-Some.other level (added.key / 2 ^ level) (c.in-Some.other / 2 ^ level) c.to_tip-2.result
+    c.to_tip-3.result c.parted-fork.result before mid after c.key_at.ensures c.requires.at c.requires.cell
+    c.parting-level.ensures.within c.parting-level.ensures.differ c.parting-level.ensures.same refl refl
+    c.parted-fork.ensures.level c.parted-fork.ensures.prefix c.parted-fork.ensures.left c.parted-fork.ensures.right
+    c.to_tip-2.ensures c.to_tip-3.ensures
+    (subst (λ (o : Option ℕ). Reads key_of c.key_at.result.object o before mid) c.in-Some.is reads) sets))

@@ -1,0 +1,28 @@
+use Rattle.dstm_cells.specs.Alternatives.{noting}
+use Rattle.dstm_structures.specs.Orders.{Ends, EndsAll, low_of, order_end}
+use Rattle.dstm_structures.proofs.Doing.{Reads, does-read, does-then}
+use Rattle.dstm_structures.proofs.Noting.{notes_twice}
+use Rattle.dstm_structures.proofs.Ordering.{ends-all}
+use Rattle.dstm_structures.proofs.order.Order.end.Goals as goal
+
+pub returns-in_err-place-clause-notes : goal.returns-in_err-place-clause-notes
+returns-in_err-place-clause-notes g c =
+    notes_twice g.L.Law.holds (noting c.args.tx.now) (noting c.get.new.self) (noting c.edge.new.tx)
+    c.in_ok-root.ensures.notes c.in_err-place.ensures.notes
+
+pub returns-clause-notes : goal.returns-clause-notes
+returns-clause-notes g c =
+    notes_twice g.L.Law.holds (noting c.args.tx.now) (noting c.get.new.self) (noting c.edge.new.tx)
+    c.in_ok-root.ensures.notes c.in_ok-place.ensures.notes
+
+pub returns-clause-ends : goal.returns-clause-ends
+returns-clause-ends g c =
+    does-then g.L.Law.holds (order_end c.args.self.cells) (Reads low_of c.root_at.result.object c.in_ok-root.root)
+    (Ends c.args.self.cells c.args.greatest c.in_ok-root.root 64 c.in_ok-place.place)
+    (EndsAll c.args.self.cells c.args.greatest c.in_ok-place.place) c.args.tx.now.attempts.caller c.get.new.self.attempts.caller
+    c.edge.new.tx.attempts.caller c.in_ok-root.ensures.keeps
+    (does-read g.L.Law.holds (order_end c.args.self.cells) low_of c.args.tx.now.attempts.caller
+    c.get.new.self.attempts.caller c.root_at.result.object c.in_ok-root.root c.in_ok-root.ensures.gets)
+    c.in_ok-place.ensures.ends
+    (λ before mid after size. ends-all c.args.self.cells c.args.greatest c.root_at.result.object c.in_ok-root.root
+    c.in_ok-place.place before mid after c.root_at.ensures)

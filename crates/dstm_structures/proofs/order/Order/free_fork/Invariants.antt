@@ -1,0 +1,13 @@
+use Rattle.dstm_cells.specs.Alternatives.{Notes, noting}
+use Rattle.dstm_cells.specs.UnderWay.{Keeps}
+use Rattle.dstm_structures.specs.Effects.{Does}
+use Rattle.dstm_structures.specs.Orders.{order_end}
+use Rattle.dstm_structures.proofs.Tipping.{PassingForks}
+use Rattle.dstm_structures.proofs.order.Order.free_fork.Given as goal
+
+-- none of the cells that were passed is free
+abbrev pub invariant-loop-cell : goal.invariant-loop-cell
+invariant-loop-cell g l =
+    Keeps l.fn.tx.attempts.caller l.tx.attempts.caller
+    × Notes g.L.Law.holds (noting l.fn.tx) (noting l.tx)
+    × Does g.L.Law.holds (order_end l.self.cells) (PassingForks l.self.cells l.cell) l.fn.tx.attempts.caller l.tx.attempts.caller

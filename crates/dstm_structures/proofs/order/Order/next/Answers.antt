@@ -1,0 +1,28 @@
+use Rattle.dstm_cells.specs.Alternatives.{noting}
+use Rattle.dstm_structures.specs.Orders.{Follows, FollowsAll, low_of, order_end}
+use Rattle.dstm_structures.proofs.Doing.{Reads, does-read, does-then}
+use Rattle.dstm_structures.proofs.Noting.{notes_twice}
+use Rattle.dstm_structures.proofs.Ordering.{follows-root}
+use Rattle.dstm_structures.proofs.order.Order.next.Goals as goal
+
+pub returns-in_err-place-clause-notes : goal.returns-in_err-place-clause-notes
+returns-in_err-place-clause-notes g c =
+    notes_twice g.L.Law.holds (noting c.args.tx.now) (noting c.get.new.self) (noting c.above.new.tx)
+    c.in_ok-root.ensures.notes c.in_err-place.ensures.notes
+
+pub returns-clause-notes : goal.returns-clause-notes
+returns-clause-notes g c =
+    notes_twice g.L.Law.holds (noting c.args.tx.now) (noting c.get.new.self) (noting c.above.new.tx)
+    c.in_ok-root.ensures.notes c.in_ok-place.ensures.notes
+
+pub returns-clause-follows : goal.returns-clause-follows
+returns-clause-follows g c =
+    does-then g.L.Law.holds (order_end c.args.self.cells) (Reads low_of c.root_at.result.object c.in_ok-root.root)
+    (Follows c.args.self.cells c.args.key c.in_ok-root.root 64 c.in_ok-place.place)
+    (FollowsAll c.args.self.cells c.args.key c.in_ok-place.place) c.args.tx.now.attempts.caller c.get.new.self.attempts.caller
+    c.above.new.tx.attempts.caller c.in_ok-root.ensures.keeps
+    (does-read g.L.Law.holds (order_end c.args.self.cells) low_of c.args.tx.now.attempts.caller
+    c.get.new.self.attempts.caller c.root_at.result.object c.in_ok-root.root c.in_ok-root.ensures.gets)
+    c.in_ok-place.ensures.follows
+    (λ before mid after size. follows-root c.args.self.cells c.args.key c.root_at.result.object c.in_ok-root.root
+    c.in_ok-place.place before mid after c.root_at.ensures)

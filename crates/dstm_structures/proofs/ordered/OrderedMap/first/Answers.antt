@@ -1,0 +1,28 @@
+use Rattle.std.proofs.Common.{false}
+use Rattle.dstm_cells.specs.Alternatives.{noting}
+use Rattle.dstm_structures.specs.Ordered.{Looks, TellsFirst}
+use Rattle.dstm_structures.specs.Orders.{EndsAll, order_end}
+use Rattle.dstm_structures.proofs.Doing.{does-then}
+use Rattle.dstm_structures.proofs.Noting.{notes_twice}
+use Rattle.dstm_structures.proofs.InOrder.{tells-first}
+use Rattle.dstm_structures.proofs.ordered.OrderedMap.first.Goals as goal
+
+pub returns-in_err-entry-clause-notes : goal.returns-in_err-entry-clause-notes
+returns-in_err-entry-clause-notes g c =
+    notes_twice g.L.Law.holds (noting c.args.tx.now) (noting c.end.new.tx) (noting c.entry.new.tx)
+    c.in_ok-place.ensures.notes c.in_err-entry.ensures.notes
+
+pub returns-clause-notes : goal.returns-clause-notes
+returns-clause-notes g c =
+    notes_twice g.L.Law.holds (noting c.args.tx.now) (noting c.end.new.tx) (noting c.entry.new.tx)
+    c.in_ok-place.ensures.notes c.in_ok-entry.ensures.notes
+
+pub returns-clause-tells : goal.returns-clause-tells
+returns-clause-tells g c =
+    does-then g.L.Law.holds (order_end c.args.self.map.cells) (EndsAll c.args.self.map.cells false c.in_ok-place.place)
+    (Looks g.V.Word.found c.args.self c.in_ok-place.place c.in_ok-entry.entry)
+    (TellsFirst g.V.Word.found c.args.self c.in_ok-entry.entry)
+    c.args.tx.now.attempts.caller c.end.new.tx.attempts.caller c.entry.new.tx.attempts.caller
+    c.in_ok-place.ensures.keeps c.in_ok-place.ensures.ends c.in_ok-entry.ensures.looks
+    (λ before mid after size. tells-first g.V.Word.found c.args.self c.in_ok-place.place c.in_ok-entry.entry before mid
+    after)

@@ -1,0 +1,133 @@
+-- What the calls on an ordered map do, by what its cells hold.
+use Rattle.std.specs.Prelude.{◌≡◌, ◌≢◌, ◌⊎◌, ℕ, ◌+◌, ◌*◌, ◌<◌, ◌≤◌, true, List, ◌++◌, length, Option, None, Some, is_some}
+use Rattle.dstm_model.specs.declared.value.Val.{Val}
+use Rattle.dstm_model.specs.Map.{value_at}
+use Rattle.dstm_structures.specs.Maps.{Tells, item_of, key_at, place_in, values_in}
+use Rattle.dstm_structures.specs.Orders.{IsOrdered, forks_in, order_end}
+use Rattle.dstm_structures.specs.declared.map.Placed.{Placed}
+use Rattle.dstm_structures.specs.declared.map.Placed.TheVariants.{New, Instead, Full}
+use Rattle.dstm_structures.specs.declared.ordered.OrderedMap.{OrderedMap}
+
+module _ {V : Type 0} (map : OrderedMap V) where
+  -- THE CELLS OF A MAP ARE IN ORDER, by the values of all objects
+  abbrev pub IsInOrder : List Val → Type 0
+  IsInOrder values = IsOrdered map.map.cells.first map.map.cells.capacity values
+
+  -- every object but those of the map keeps its value
+  abbrev pub KeepsOthers : List Val → List Val → Type 0
+  KeepsOthers before after =
+      (o : ℕ) → (o < map.map.cells.first) ⊎ (order_end map.map.cells ≤ o) → value_at after o ≡ value_at before o
+
+module _ {V : Type 0} (found : Val → V) (map : OrderedMap V) where
+  -- A KEY HAS THIS NOW, and had that before; every other key has what it had, no object around the map was set, and where
+  -- the cells were in order, they are
+  pub record Makes (key : ℕ) (now had : Option V) (before after : List Val) : Type 0 where
+    pub was : item_of found map.map before key ≡ had
+    pub is : item_of found map.map after key ≡ now
+    pub others : (k : ℕ) → k ≢ key → item_of found map.map after k ≡ item_of found map.map before k
+    pub around : KeepsOthers map before after
+    pub order : IsInOrder map before → IsInOrder map after
+
+  -- a key was not there, each place holds one or each fork is taken, and nothing was set
+  pub record HasNoRoom (key : ℕ) (before after : List Val) : Type 0 where
+    pub was : item_of found map.map before key ≡ None
+    pub full : ((at : ℕ) → at < map.map.cells.capacity → is_some (key_at map.map before at) ≡ true)
+        ⊎ ((at : ℕ) → at < map.map.cells.capacity → (forks_in map.map.cells.first map.map.cells.capacity before at).1 ≢ 0)
+    pub same : after ≡ before
+
+  -- WHAT PUTTING A KEY DOES, by the answer
+  abbrev pub Puts : ℕ → V → Placed V → List Val → List Val → Type 0
+  Puts key value New before after = Makes key (Some value) None before after
+  Puts key value (Instead had) before after = Makes key (Some value) (Some had) before after
+  Puts key value Full before after = HasNoRoom key before after
+
+  -- what putting a key does that is not there
+  abbrev pub Adding : ℕ → V → Placed V → List Val → List Val → Type 0
+  Adding key value placed before after =
+      place_in map.map.cells.first map.map.cells.capacity before key ≡ None → Puts key value placed before after
+
+  -- WHAT TAKING A KEY OUT DOES, by the answer
+  abbrev pub Removes : ℕ → Option V → List Val → List Val → Type 0
+  Removes key None before after = Tells found map.map key None before after
+  Removes key (Some had) before after = Makes key None (Some had) before after
+
+  -- a key was taken out that stood at this place
+  abbrev pub Takes : (key at : ℕ) → List Val → List Val → Type 0
+  Takes key at before after =
+      place_in map.map.cells.first map.map.cells.capacity before key ≡ Some at →
+      Makes key None (item_of found map.map before key) before after
+
+  -- ---- keys by their order
+
+  -- what a place holds, if it holds a key
+  abbrev pub entry_of : Option ℕ → V → Option (ℕ × V)
+  entry_of None value = None
+  entry_of (Some key) value = Some (key, value)
+
+  abbrev pub entry_at : List Val → Option ℕ → Option (ℕ × V)
+  entry_at values None = None
+  entry_at values (Some at) =
+      entry_of (key_at map.map values at) (values_in found map.map.cells.first map.map.cells.capacity values at)
+
+  -- this is the first key, with its value; or there is none
+  abbrev pub IsFirst : Option (ℕ × V) → List Val → Type 0
+  IsFirst None values = (k : ℕ) → item_of found map.map values k ≡ None
+  IsFirst (Some entry) values =
+      (item_of found map.map values entry.0 ≡ Some entry.1)
+      × ((k : ℕ) → k < entry.0 → item_of found map.map values k ≡ None)
+
+  -- this is the last key
+  abbrev pub IsLast : Option (ℕ × V) → List Val → Type 0
+  IsLast None values = (k : ℕ) → item_of found map.map values k ≡ None
+  IsLast (Some entry) values =
+      (item_of found map.map values entry.0 ≡ Some entry.1)
+      × ((k : ℕ) → entry.0 < k → item_of found map.map values k ≡ None)
+
+  -- this is the first key above another one
+  abbrev pub IsFirstAbove : ℕ → Option (ℕ × V) → List Val → Type 0
+  IsFirstAbove key None values = (k : ℕ) → key < k → item_of found map.map values k ≡ None
+  IsFirstAbove key (Some entry) values =
+      (item_of found map.map values entry.0 ≡ Some entry.1)
+      × (key < entry.0)
+      × ((k : ℕ) → key < k → k < entry.0 → item_of found map.map values k ≡ None)
+
+  -- a place was looked at, and nothing was set
+  pub record Looks (place : Option ℕ) (answer : Option (ℕ × V)) (before after : List Val) : Type 0 where
+    pub is : answer ≡ entry_at before place
+    pub same : after ≡ before
+
+  -- THE FIRST KEY WAS TOLD, with its value, where the cells are in order, and nothing was set
+  pub record TellsFirst (answer : Option (ℕ × V)) (before after : List Val) : Type 0 where
+    pub is : IsInOrder map before → IsFirst answer before
+    pub same : after ≡ before
+
+  -- the last key
+  pub record TellsLast (answer : Option (ℕ × V)) (before after : List Val) : Type 0 where
+    pub is : IsInOrder map before → IsLast answer before
+    pub same : after ≡ before
+
+  -- the first key above another one
+  pub record TellsAbove (key : ℕ) (answer : Option (ℕ × V)) (before after : List Val) : Type 0 where
+    pub is : IsInOrder map before → IsFirstAbove key answer before
+    pub same : after ≡ before
+
+  -- THE FIRST KEY WAS TAKEN OUT, where the cells were in order
+  pub record TakesFirst (entry : ℕ × V) (before after : List Val) : Type 0 where
+    pub first : IsInOrder map before → IsFirst (Some entry) before
+    pub is : item_of found map.map after entry.0 ≡ None
+    pub others : (k : ℕ) → k ≢ entry.0 → item_of found map.map after k ≡ item_of found map.map before k
+    pub around : KeepsOthers map before after
+    pub order : IsInOrder map before → IsInOrder map after
+
+  abbrev pub Pops : Option (ℕ × V) → List Val → List Val → Type 0
+  Pops None before after = TellsFirst None before after
+  Pops (Some entry) before after = TakesFirst entry before after
+
+  -- an empty map, in order, has got the objects behind those before
+  pub record Adds (before after : List Val) : Type 0 where
+    pub added : List Val
+    pub behind : after ≡ before ++ added
+    pub first : map.map.cells.first ≡ length before
+    pub count : length added ≡ 4 * map.map.cells.capacity + 1
+    pub empty : (key : ℕ) → item_of found map.map after key ≡ None
+    pub order : IsInOrder map after

@@ -1,0 +1,237 @@
+// An ordered map in the cells of a memory.
+ghost use Rattle.std.specs.Prelude.{◌≡◌, ◌+◌, ◌*◌, ◌<◌, ◌≤◌, false, IfErr, IfOk, IfSome, OnOk};
+ghost use Rattle.dstm_cells.specs.Alternatives.{Notes, noting};
+ghost use Rattle.dstm_cells.specs.UnderWay.{Keeps};
+ghost use Rattle.dstm_structures.specs.Effects.{Does, Stops};
+ghost use Rattle.dstm_structures.specs.Maps.{Tells, TellsIf, end_of};
+ghost use Rattle.dstm_structures.specs.Ordered.{Adding, Adds, Looks, Pops, Puts, Removes, Takes, TellsAbove, TellsFirst, TellsLast};
+ghost use Rattle.dstm_structures.specs.Orders.{order_end};
+
+use crate::cells::{Rows, number};
+use crate::map::{HashMap, Placed};
+use crate::order::Order;
+use crate::tips::Added;
+use dstm_cells::{Failed, MOST_CELLS, Memory, Stop, Tx, Word};
+use dstm_model::Law;
+
+/// A map of at most so many keys that also tells them by their order, in the cells of a memory. It is a name: copies of it
+/// name the same map. It looks a key up as a `HashMap` does; the order is a trie of the keys' bits, whose forks a search for
+/// the first key, for the last one or for the first one above another goes down: at most 64, and for n keys that are dense or
+/// random about as many as n has bits. To add a key or take one out sets one link of the trie and one of its forks.
+#[derive(Clone, Copy)]
+pub struct OrderedMap<V> {
+    pub(crate) map: HashMap<V>,
+}
+
+impl<V: Word> OrderedMap<V> {
+    /// An empty map in new cells of a memory: four for each key that it has room for, which are from 1 on, and one more.
+    pub fn new<L: Law + Copy>(
+        memory: &mut Memory<L>,
+        capacity: u32,
+    ) -> Result<OrderedMap<V>, Failed>
+        ensures adds { IfOk result (λ map. Adds V.found map memory.old.values.items memory.new.values.items) }
+        ensures capacity { IfOk result (λ map. map.map.cells.capacity ≡ capacity) }
+        ensures fails { IfErr result (λ why. memory.new.values.items ≡ memory.old.values.items) }
+        ensures engine { memory.new.engine ≡ memory.old.engine }
+        ensures law { memory.new.law ≡ memory.old.law }
+    {
+        if capacity == 0 || capacity > (MOST_CELLS - 1) / 4 {
+            return Err(Failed::Full);
+        }
+        let cells = memory.cells((0u64, 0u64), 4 * capacity + 1)?;
+        let cells = Rows {
+            first: number(cells[0]),
+            capacity,
+        };
+        Ok(OrderedMap {
+            map: HashMap::of_cells(cells),
+        })
+    }
+
+    /// How many keys it has room for.
+    pub fn capacity(self) -> u32
+        ensures { result ≡ self.map.cells.capacity }
+    {
+        self.map.cells.capacity
+    }
+
+    /// The value of a key, if it is there. It reads what a `HashMap` reads.
+    pub fn get<L: Law>(self, tx: &mut Tx<'_, L>, key: u64) -> Result<Option<V>, Stop>
+        ensures keeps { Keeps tx.old.attempts.caller tx.new.attempts.caller }
+        ensures notes { Notes L.holds (noting tx.old) (noting tx.new) }
+        ensures stops { IfErr result (λ stop. Stops (end_of self.map) false tx.old.attempts.caller stop.why) }
+        ensures tells { IfOk result (λ answer. Does L.holds (end_of self.map) (Tells V.found self.map key answer)
+            tx.old.attempts.caller tx.new.attempts.caller) }
+    {
+        self.map.get(tx, key)
+    }
+
+    /// Tells whether a key is there.
+    pub fn contains<L: Law>(self, tx: &mut Tx<'_, L>, key: u64) -> Result<bool, Stop>
+        ensures keeps { Keeps tx.old.attempts.caller tx.new.attempts.caller }
+        ensures notes { Notes L.holds (noting tx.old) (noting tx.new) }
+        ensures stops { IfErr result (λ stop. Stops (end_of self.map) false tx.old.attempts.caller stop.why) }
+        ensures tells { IfOk result (λ answer. Does L.holds (end_of self.map) (TellsIf V.found self.map key answer)
+            tx.old.attempts.caller tx.new.attempts.caller) }
+    {
+        self.map.contains(tx, key)
+    }
+
+    /// Gives a key this value, and adds the key where it is not there. Where it is there, nothing of the order is read.
+    pub fn put<L: Law>(self, tx: &mut Tx<'_, L>, key: u64, value: V) -> Result<Placed<V>, Stop>
+        ensures keeps { Keeps tx.old.attempts.caller tx.new.attempts.caller }
+        ensures notes { Notes L.holds (noting tx.old) (noting tx.new) }
+        ensures stops { IfErr result (λ stop. Stops (order_end self.map.cells) tx.old.notes tx.old.attempts.caller stop.why) }
+        ensures puts { IfOk result (λ placed. Does L.holds (order_end self.map.cells) (Puts V.found self key value placed)
+            tx.old.attempts.caller tx.new.attempts.caller) }
+    {
+        let found = self.map.find(tx, key)?;
+        let Some(at) = found else {
+            let placed = self.add(tx, key, value)?;
+            return Ok(placed);
+        };
+        let had = tx.replace(self.map.value_at(at), value)?;
+        Ok(Placed::Instead(had))
+    }
+
+    /// Takes a key out, and answers its value, if it is there.
+    pub fn remove<L: Law>(self, tx: &mut Tx<'_, L>, key: u64) -> Result<Option<V>, Stop>
+        ensures keeps { Keeps tx.old.attempts.caller tx.new.attempts.caller }
+        ensures notes { Notes L.holds (noting tx.old) (noting tx.new) }
+        ensures stops { IfErr result (λ stop. Stops (order_end self.map.cells) tx.old.notes tx.old.attempts.caller stop.why) }
+        ensures removes { IfOk result (λ removed. Does L.holds (order_end self.map.cells) (Removes V.found self key removed)
+            tx.old.attempts.caller tx.new.attempts.caller) }
+    {
+        let found = self.map.find(tx, key)?;
+        let Some(at) = found else {
+            return Ok(None);
+        };
+        let value = tx.get(self.map.value_at(at))?;
+        self.take(tx, key, at)?;
+        Ok(Some(value))
+    }
+
+    /// The first key with its value, if there is one.
+    pub fn first<L: Law>(self, tx: &mut Tx<'_, L>) -> Result<Option<(u64, V)>, Stop>
+        ensures keeps { Keeps tx.old.attempts.caller tx.new.attempts.caller }
+        ensures notes { Notes L.holds (noting tx.old) (noting tx.new) }
+        ensures stops { IfErr result (λ stop. Stops (order_end self.map.cells) false tx.old.attempts.caller stop.why) }
+        ensures tells { IfOk result (λ answer. Does L.holds (order_end self.map.cells) (TellsFirst V.found self answer)
+            tx.old.attempts.caller tx.new.attempts.caller) }
+    {
+        let order = Order {
+            cells: self.map.cells,
+        };
+        let place = order.end(tx, false)?;
+        let entry = self.entry(tx, place)?;
+        Ok(entry)
+    }
+
+    /// The last key with its value, if there is one.
+    pub fn last<L: Law>(self, tx: &mut Tx<'_, L>) -> Result<Option<(u64, V)>, Stop>
+        ensures keeps { Keeps tx.old.attempts.caller tx.new.attempts.caller }
+        ensures notes { Notes L.holds (noting tx.old) (noting tx.new) }
+        ensures stops { IfErr result (λ stop. Stops (order_end self.map.cells) false tx.old.attempts.caller stop.why) }
+        ensures tells { IfOk result (λ answer. Does L.holds (order_end self.map.cells) (TellsLast V.found self answer)
+            tx.old.attempts.caller tx.new.attempts.caller) }
+    {
+        let order = Order {
+            cells: self.map.cells,
+        };
+        let place = order.end(tx, true)?;
+        let entry = self.entry(tx, place)?;
+        Ok(entry)
+    }
+
+    /// The first key above this one with its value, if there is one. The key itself need not be there.
+    pub fn next_above<L: Law>(self, tx: &mut Tx<'_, L>, key: u64) -> Result<Option<(u64, V)>, Stop>
+        ensures keeps { Keeps tx.old.attempts.caller tx.new.attempts.caller }
+        ensures notes { Notes L.holds (noting tx.old) (noting tx.new) }
+        ensures stops { IfErr result (λ stop. Stops (order_end self.map.cells) false tx.old.attempts.caller stop.why) }
+        ensures tells { IfOk result (λ answer. Does L.holds (order_end self.map.cells) (TellsAbove V.found self key answer)
+            tx.old.attempts.caller tx.new.attempts.caller) }
+    {
+        let order = Order {
+            cells: self.map.cells,
+        };
+        let place = order.next(tx, key)?;
+        let entry = self.entry(tx, place)?;
+        Ok(entry)
+    }
+
+    /// Takes the first key out, and answers it with its value, if there is one.
+    pub fn pop_first<L: Law>(self, tx: &mut Tx<'_, L>) -> Result<Option<(u64, V)>, Stop>
+        ensures keeps { Keeps tx.old.attempts.caller tx.new.attempts.caller }
+        ensures notes { Notes L.holds (noting tx.old) (noting tx.new) }
+        ensures stops { IfErr result (λ stop. Stops (order_end self.map.cells) tx.old.notes tx.old.attempts.caller stop.why) }
+        ensures pops { IfOk result (λ popped. Does L.holds (order_end self.map.cells) (Pops V.found self popped)
+            tx.old.attempts.caller tx.new.attempts.caller) }
+    {
+        let first = self.first(tx)?;
+        let Some(entry) = first else {
+            return Ok(None);
+        };
+        let _removed = self.remove(tx, entry.0)?;
+        Ok(Some(entry))
+    }
+
+    // Adds a key that is not there.
+    fn add<L: Law>(self, tx: &mut Tx<'_, L>, key: u64, value: V) -> Result<Placed<V>, Stop>
+        ensures keeps { Keeps tx.old.attempts.caller tx.new.attempts.caller }
+        ensures notes { Notes L.holds (noting tx.old) (noting tx.new) }
+        ensures stops { IfErr result (λ stop. Stops (order_end self.map.cells) tx.old.notes tx.old.attempts.caller stop.why) }
+        ensures adds { IfOk result (λ placed. Does L.holds (order_end self.map.cells) (Adding V.found self key value placed)
+            tx.old.attempts.caller tx.new.attempts.caller) }
+    {
+        let order = Order {
+            cells: self.map.cells,
+        };
+        let free = order.free_fork(tx)?;
+        let Some(cell) = free else {
+            return Ok(Placed::Full);
+        };
+        let placed = self.map.insert(tx, key, value)?;
+        let Some(at) = placed else {
+            return Ok(Placed::Full);
+        };
+        order.add(tx, Added { key, at, cell })?;
+        Ok(Placed::New)
+    }
+
+    // Takes a key out that stands at this place.
+    fn take<L: Law>(self, tx: &mut Tx<'_, L>, key: u64, at: u32) -> Result<(), Stop>
+        requires { at < self.map.cells.capacity }
+        ensures keeps { Keeps tx.old.attempts.caller tx.new.attempts.caller }
+        ensures notes { Notes L.holds (noting tx.old) (noting tx.new) }
+        ensures stops { IfErr result (λ stop. Stops (order_end self.map.cells) tx.old.notes tx.old.attempts.caller stop.why) }
+        ensures takes { OnOk result (Does L.holds (order_end self.map.cells) (Takes V.found self key at)
+            tx.old.attempts.caller tx.new.attempts.caller) }
+    {
+        let order = Order {
+            cells: self.map.cells,
+        };
+        order.drop_key(tx, key, at)?;
+        self.map.clear(tx, key)?;
+        Ok(())
+    }
+
+    // The key of a place with its value, if it holds one.
+    fn entry<L: Law>(self, tx: &mut Tx<'_, L>, place: Option<u32>) -> Result<Option<(u64, V)>, Stop>
+        requires { IfSome place (λ at. at < self.map.cells.capacity) }
+        ensures keeps { Keeps tx.old.attempts.caller tx.new.attempts.caller }
+        ensures notes { Notes L.holds (noting tx.old) (noting tx.new) }
+        ensures stops { IfErr result (λ stop. Stops (order_end self.map.cells) false tx.old.attempts.caller stop.why) }
+        ensures looks { IfOk result (λ answer. Does L.holds (order_end self.map.cells) (Looks V.found self place answer)
+            tx.old.attempts.caller tx.new.attempts.caller) }
+    {
+        let Some(at) = place else {
+            return Ok(None);
+        };
+        let held = tx.get(self.map.key_at(at))?;
+        let Some(key) = held else {
+            return Ok(None);
+        };
+        let value = tx.get(self.map.value_at(at))?;
+        Ok(Some((key, value)))
+    }
+}
