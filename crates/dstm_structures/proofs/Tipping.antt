@@ -3,6 +3,7 @@ use Rattle.std.proofs.Common.{◌≡◌, ◌∙◌, ℕ, ◌+◌, ◌*◌, ◌/�
 use Rattle.std.specs.Prelude.{Option, Some}
 use Rattle.dstm_model.specs.declared.value.Val.{Val}
 use Rattle.dstm_model.specs.Map.{no_value, value_at}
+use Rattle.dstm_structures.specs.Circles.{behind}
 use Rattle.dstm_structures.specs.Maps.{key_of}
 use Rattle.dstm_structures.specs.Orders.{Below, Has, HoldsIn, KeepsButForks, Trie, fork, left_in, level_in, link_in, link_to, order_end, right_in, tip, words_of}
 use Rattle.dstm_structures.specs.Tips.{AddsBeside, AddsOver, AddsTip, FreeFork, FreesFork, Gains, KeepsButFork, LooksFork, NoFreeFork, SetsFork, SetsSide, TellsFork, key_told, words_at}
@@ -15,6 +16,7 @@ use Rattle.dstm_structures.proofs.Forks.{to_fork}
 use Rattle.dstm_structures.proofs.Growing.{gains_before, gains_behind, gains_left, gains_right}
 use Rattle.dstm_structures.proofs.Ordering.{IsFork, fork-is, led}
 use Rattle.dstm_structures.proofs.Orders.{fork-not-nothing, leads, tip-not-fork, tip-not-nothing, tip-same}
+use Rattle.dstm_structures.proofs.Places.{distance}
 use Rattle.dstm_structures.proofs.Powers.{differ_above, half, higher}
 use Rattle.dstm_structures.proofs.Tries.{not_above, not_free, prefix_at}
 
@@ -136,44 +138,51 @@ module _ (cells : Rows) where
 
   -- ---- the search for a free one
 
-  -- none of the cells of the first forks is free
-  pub record PassingForks (passed : ℕ) (before after : List Val) : Type 0 where
-    pub taken : (c : ℕ) → c < passed → (words_at cells before c).1 ≡ 0 → ⊥
+  -- none of so many forks' cells from this one on is free
+  pub record PassingForks (home passed : ℕ) (before after : List Val) : Type 0 where
+    pub taken : (j : ℕ) → j < passed → (words_at cells before (behind n home j)).1 ≡ 0 → ⊥
     pub same : after ≡ before
 
-  pub forks_start : (values : List Val) → PassingForks 0 values values
-  forks_start values = record { taken = λ c low none. omega (arith, low); same = refl }
+  pub forks_start : (home : ℕ) (values : List Val) → PassingForks home 0 values values
+  forks_start home values = record { taken = λ j low none. omega (arith, low); same = refl }
 
-  pub forks_end : (passed : ℕ) (before after : List Val) → n ≤ passed → PassingForks passed before after →
-      NoFreeFork cells before after
-  forks_end passed before after end p = record {
-    taken = λ c low none. p.taken c (omega (arith, low, end)) none;
+  pub forks_end : (home passed : ℕ) (before after : List Val) → home < n → n ≤ passed →
+      PassingForks home passed before after → NoFreeFork cells before after
+  forks_end home passed before after here end p = record {
+    taken = λ c low none. at_distance c none (distance n home c here low);
     same = p.same;
   }
+    where
+      at_distance : (c : ℕ) → (words_at cells before c).1 ≡ 0 → (j : ℕ) × (j < n) × (behind n home j ≡ c) → ⊥
+      at_distance c none d =
+          p.taken d.0 (omega (arith, d.1, end)) (ap (λ (x : ℕ). (words_at cells before x).1) d.2 ∙ none)
 
-  module _ (passed o : ℕ) (held : ℕ × ℕ) (before mid after : List Val) (at : o ≡ first + 3 * n + 1 + passed)
-      (p : PassingForks passed before mid) (reads : Reads words_of o held mid after) where
-    fork_read : held ≡ words_at cells before passed
+  module _ (home passed cell o : ℕ) (held : ℕ × ℕ) (before mid after : List Val) (cell_is : cell ≡ behind n home passed)
+      (at : o ≡ first + 3 * n + 1 + cell) (p : PassingForks home passed before mid)
+      (reads : Reads words_of o held mid after) where
+    fork_read : held ≡ words_at cells before cell
     fork_read =
         reads.is ∙ ap (λ (x : ℕ). words_of (value_at mid x)) at
-        ∙ ap (λ (xs : List Val). words_of (value_at xs (first + 3 * n + 1 + passed))) p.same
+        ∙ ap (λ (xs : List Val). words_of (value_at xs (first + 3 * n + 1 + cell))) p.same
 
-    pub fork_found : held.1 ≡ 0 → FreeFork cells passed before after
+    pub fork_found : held.1 ≡ 0 → FreeFork cells cell before after
     fork_found none = record {
       free = sym (ap (λ (w : ℕ × ℕ). w.1) fork_read) ∙ none;
       same = reads.same ∙ p.same;
     }
 
-    pub fork_passed : (held.1 ≡ 0 → ⊥) → PassingForks (passed + 1) before after
-    fork_passed some = record { taken = λ c low. each c low (cases_of c); same = reads.same ∙ p.same }
+    pub fork_passed : (held.1 ≡ 0 → ⊥) → PassingForks home (passed + 1) before after
+    fork_passed some = record { taken = λ j low. each j low (cases_of j); same = reads.same ∙ p.same }
       where
-        cases_of : (c : ℕ) → (c ≡ passed) ⊎ (c ≡ passed → ⊥)
-        cases_of c = grind arith
+        cases_of : (j : ℕ) → (j ≡ passed) ⊎ (j ≡ passed → ⊥)
+        cases_of j = grind arith
 
-        each : (c : ℕ) → c < passed + 1 → (c ≡ passed) ⊎ (c ≡ passed → ⊥) → (words_at cells before c).1 ≡ 0 → ⊥
-        each c low (inl same) none =
-            some (ap (λ (w : ℕ × ℕ). w.1) fork_read ∙ ap (λ (x : ℕ). (words_at cells before x).1) (sym same) ∙ none)
-        each c low (inr apart) none = p.taken c (omega (arith, low, apart)) none
+        each : (j : ℕ) → j < passed + 1 → (j ≡ passed) ⊎ (j ≡ passed → ⊥) →
+            (words_at cells before (behind n home j)).1 ≡ 0 → ⊥
+        each j low (inl same) none =
+            some (ap (λ (w : ℕ × ℕ). w.1) fork_read
+            ∙ ap (λ (x : ℕ). (words_at cells before x).1) (cell_is ∙ ap (behind n home) (sym same)) ∙ none)
+        each j low (inr apart) none = p.taken j (omega (arith, low, apart)) none
 
   -- ---- where a link leads to
 

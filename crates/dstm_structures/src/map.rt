@@ -280,7 +280,7 @@ impl<V: Word> HashMap<V> {
     }
 
     // The place from which on a key is looked for.
-    fn home(self, key: u64) -> u32
+    pub(crate) fn home(self, key: u64) -> u32
         ensures home { result ≡ home_in self.cells.capacity key }
         ensures within { result < self.cells.capacity }
     {

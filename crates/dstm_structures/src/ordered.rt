@@ -186,7 +186,7 @@ impl<V: Word> OrderedMap<V> {
         let order = Order {
             cells: self.map.cells,
         };
-        let free = order.free_fork(tx)?;
+        let free = order.free_fork(tx, self.map.home(key))?;
         let Some(cell) = free else {
             return Ok(Placed::Full);
         };

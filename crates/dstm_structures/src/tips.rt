@@ -6,6 +6,7 @@ ghost use Rattle.dstm_structures.specs.Effects.{Does, Stops};
 ghost use Rattle.dstm_structures.specs.Orders.{order_end};
 ghost use Rattle.dstm_structures.specs.Tips.{AddsBeside, AddsKey, AddsOver, AddsTip, DropsKey, DropsTip, FreesFork, LooksFork, SeeksFork, SetsFork, SetsSide};
 
+use crate::cells::behind;
 use crate::order::{Fork, Link, Order, fork_of, held_of, to_fork, to_tip};
 use dstm_cells::{Stop, Tx};
 use dstm_model::Law;
@@ -50,8 +51,13 @@ impl Order {
         Ok(())
     }
 
-    // The first fork's cell that is free.
-    pub(crate) fn free_fork<L: Law>(self, tx: &mut Tx<'_, L>) -> Result<Option<u32>, Stop>
+    // The first fork's cell that is free, from this one on, in a circle.
+    pub(crate) fn free_fork<L: Law>(
+        self,
+        tx: &mut Tx<'_, L>,
+        home: u32,
+    ) -> Result<Option<u32>, Stop>
+        requires { home < self.cells.capacity }
         ensures keeps { Keeps tx.old.attempts.caller tx.new.attempts.caller }
         ensures notes { Notes L.holds (noting tx.old) (noting tx.new) }
         ensures stops { IfErr result (λ stop. Stops (order_end self.cells) false tx.old.attempts.caller stop.why) }
@@ -59,7 +65,8 @@ impl Order {
         ensures seeks { IfOk result (λ free. Does L.holds (order_end self.cells) (SeeksFork self.cells free)
             tx.old.attempts.caller tx.new.attempts.caller) }
     {
-        for cell in 0..self.cells.capacity {
+        for passed in 0..self.cells.capacity {
+            let cell = behind(self.cells.capacity, home, passed);
             let held = tx.get(self.fork_at(cell))?;
             if held.1 == 0 {
                 return Ok(Some(cell));

@@ -8,61 +8,63 @@ use Rattle.dstm_structures.proofs.Noting.{notes_still, notes_twice}
 use Rattle.dstm_structures.proofs.Tipping.{PassingForks, fork_found, fork_passed, forks_end, forks_start}
 use Rattle.dstm_structures.proofs.order.Order.free_fork.Goals as goal
 
-pub loop-cell-init : goal.loop-cell-init
-loop-cell-init g c = (
+pub loop-passed-init : goal.loop-passed-init
+loop-passed-init g c = (
   refl,
   notes_still g.L.Law.holds (noting c.args.tx.now),
-  does-still g.L.Law.holds (order_end c.args.self.cells) (PassingForks c.args.self.cells 0) c.args.tx.now.attempts.caller
-      (λ values. forks_start c.args.self.cells values),
+  does-still g.L.Law.holds (order_end c.args.self.cells) (PassingForks c.args.self.cells c.args.home 0) c.args.tx.now.attempts.caller
+      (λ values. forks_start c.args.self.cells c.args.home values),
 )
 
 pub returns-in_err-held-clause-keeps : goal.returns-in_err-held-clause-keeps
-returns-in_err-held-clause-keeps g c = c.in_err-held.ensures.keeps ∙ c.loop-cell.invariant.0
+returns-in_err-held-clause-keeps g c = c.in_err-held.ensures.keeps ∙ c.loop-passed.invariant.0
 
 pub returns-in_err-held-clause-notes : goal.returns-in_err-held-clause-notes
 returns-in_err-held-clause-notes g c =
-    notes_twice g.L.Law.holds (noting c.args.tx.now) (noting c.loop-cell.tx) (noting c.get.new.self)
-    c.loop-cell.invariant.1 c.in_err-held.ensures.notes
+    notes_twice g.L.Law.holds (noting c.args.tx.now) (noting c.loop-passed.tx) (noting c.get.new.self)
+    c.loop-passed.invariant.1 c.in_err-held.ensures.notes
 
 pub returns-then-held-eq0-clause-keeps : goal.returns-then-held-eq0-clause-keeps
-returns-then-held-eq0-clause-keeps g c = c.in_ok-held.ensures.keeps ∙ c.loop-cell.invariant.0
+returns-then-held-eq0-clause-keeps g c = c.in_ok-held.ensures.keeps ∙ c.loop-passed.invariant.0
 
 pub returns-then-held-eq0-clause-notes : goal.returns-then-held-eq0-clause-notes
 returns-then-held-eq0-clause-notes g c =
-    notes_twice g.L.Law.holds (noting c.args.tx.now) (noting c.loop-cell.tx) (noting c.get.new.self)
-    c.loop-cell.invariant.1 c.in_ok-held.ensures.notes
+    notes_twice g.L.Law.holds (noting c.args.tx.now) (noting c.loop-passed.tx) (noting c.get.new.self)
+    c.loop-passed.invariant.1 c.in_ok-held.ensures.notes
 
 pub returns-then-held-eq0-clause-seeks : goal.returns-then-held-eq0-clause-seeks
 returns-then-held-eq0-clause-seeks g c =
-    then-read g.L.Law.holds (order_end c.args.self.cells) (PassingForks c.args.self.cells c.loop-cell.cell)
-    (SeeksFork c.args.self.cells (Some c.loop-cell.cell)) words_of c.args.tx.now.attempts.caller
-    c.loop-cell.tx.attempts.caller c.get.new.self.attempts.caller c.fork_at.result.object c.in_ok-held.held
-    c.loop-cell.invariant.0 c.loop-cell.invariant.2 c.in_ok-held.ensures.gets
-    (λ before mid after size p reads. fork_found c.args.self.cells c.loop-cell.cell c.fork_at.result.object c.in_ok-held.held
-    before mid after c.fork_at.ensures p reads c.if-held-eq0.true)
+    then-read g.L.Law.holds (order_end c.args.self.cells) (PassingForks c.args.self.cells c.args.home c.loop-passed.passed)
+    (SeeksFork c.args.self.cells (Some c.behind-cell.result)) words_of c.args.tx.now.attempts.caller
+    c.loop-passed.tx.attempts.caller c.get.new.self.attempts.caller c.fork_at.result.object c.in_ok-held.held
+    c.loop-passed.invariant.0 c.loop-passed.invariant.2 c.in_ok-held.ensures.gets
+    (λ before mid after size p reads. fork_found c.args.self.cells c.args.home c.loop-passed.passed
+    c.behind-cell.result c.fork_at.result.object c.in_ok-held.held before mid after
+    c.behind-cell.ensures.behind c.fork_at.ensures p reads c.if-held-eq0.true)
 
-pub loop-cell-preserved : goal.loop-cell-preserved
-loop-cell-preserved g c = (
-  c.in_ok-held.ensures.keeps ∙ c.loop-cell.invariant.0,
-  notes_twice g.L.Law.holds (noting c.args.tx.now) (noting c.loop-cell.tx) (noting c.get.new.self)
-      c.loop-cell.invariant.1 c.in_ok-held.ensures.notes,
-  then-read g.L.Law.holds (order_end c.args.self.cells) (PassingForks c.args.self.cells c.loop-cell.cell)
-      (PassingForks c.args.self.cells (c.loop-cell.cell + 1)) words_of c.args.tx.now.attempts.caller
-      c.loop-cell.tx.attempts.caller c.get.new.self.attempts.caller c.fork_at.result.object c.in_ok-held.held
-      c.loop-cell.invariant.0 c.loop-cell.invariant.2 c.in_ok-held.ensures.gets
-      (λ before mid after size p reads. fork_passed c.args.self.cells c.loop-cell.cell c.fork_at.result.object
-      c.in_ok-held.held before mid after c.fork_at.ensures p reads (λ e. c.if-held-eq0.false e)),
+pub loop-passed-preserved : goal.loop-passed-preserved
+loop-passed-preserved g c = (
+  c.in_ok-held.ensures.keeps ∙ c.loop-passed.invariant.0,
+  notes_twice g.L.Law.holds (noting c.args.tx.now) (noting c.loop-passed.tx) (noting c.get.new.self)
+      c.loop-passed.invariant.1 c.in_ok-held.ensures.notes,
+  then-read g.L.Law.holds (order_end c.args.self.cells) (PassingForks c.args.self.cells c.args.home c.loop-passed.passed)
+      (PassingForks c.args.self.cells c.args.home (c.loop-passed.passed + 1)) words_of c.args.tx.now.attempts.caller
+      c.loop-passed.tx.attempts.caller c.get.new.self.attempts.caller c.fork_at.result.object c.in_ok-held.held
+      c.loop-passed.invariant.0 c.loop-passed.invariant.2 c.in_ok-held.ensures.gets
+      (λ before mid after size p reads. fork_passed c.args.self.cells c.args.home c.loop-passed.passed
+      c.behind-cell.result c.fork_at.result.object c.in_ok-held.held before mid after
+      c.behind-cell.ensures.behind c.fork_at.ensures p reads (λ e. c.if-held-eq0.false e)),
 )
 
 pub returns-clause-keeps : goal.returns-clause-keeps
-returns-clause-keeps g c = c.loop-cell.invariant.0
+returns-clause-keeps g c = c.loop-passed.invariant.0
 
 pub returns-clause-notes : goal.returns-clause-notes
-returns-clause-notes g c = c.loop-cell.invariant.1
+returns-clause-notes g c = c.loop-passed.invariant.1
 
 pub returns-clause-seeks : goal.returns-clause-seeks
 returns-clause-seeks g c =
-    does-as g.L.Law.holds (order_end c.args.self.cells) (PassingForks c.args.self.cells c.loop-cell.cell)
-    (SeeksFork c.args.self.cells None) c.args.tx.now.attempts.caller c.loop-cell.tx.attempts.caller
-    c.loop-cell.invariant.2
-    (λ before after size. forks_end c.args.self.cells c.loop-cell.cell before after (omega (arith, c.loop-cell-test.false)))
+    does-as g.L.Law.holds (order_end c.args.self.cells) (PassingForks c.args.self.cells c.args.home c.loop-passed.passed)
+    (SeeksFork c.args.self.cells None) c.args.tx.now.attempts.caller c.loop-passed.tx.attempts.caller
+    c.loop-passed.invariant.2
+    (λ before after size. forks_end c.args.self.cells c.args.home c.loop-passed.passed before after c.requires (omega (arith, c.loop-passed-test.false)))

@@ -6,8 +6,8 @@ use Rattle.dstm_structures.proofs.Tipping.{PassingForks}
 use Rattle.dstm_structures.proofs.order.Order.free_fork.Given as goal
 
 -- none of the cells that were passed is free
-abbrev pub invariant-loop-cell : goal.invariant-loop-cell
-invariant-loop-cell g l =
+abbrev pub invariant-loop-passed : goal.invariant-loop-passed
+invariant-loop-passed g l =
     Keeps l.fn.tx.attempts.caller l.tx.attempts.caller
     × Notes g.L.Law.holds (noting l.fn.tx) (noting l.tx)
-    × Does g.L.Law.holds (order_end l.self.cells) (PassingForks l.self.cells l.cell) l.fn.tx.attempts.caller l.tx.attempts.caller
+    × Does g.L.Law.holds (order_end l.self.cells) (PassingForks l.self.cells l.home l.passed) l.fn.tx.attempts.caller l.tx.attempts.caller
