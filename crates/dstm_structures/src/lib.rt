@@ -1,5 +1,5 @@
-//! Structures that transactions change together with cells: a queue and a map in the cells of a memory. Whoever uses them
-//! states no law and proves nothing.
+//! Structures that transactions change together with cells: a queue, a map and an ordered map in the cells of a memory. Whoever
+//! uses them states no law and proves nothing.
 #![tactic(auto)]
 
 mod cells;
