@@ -128,7 +128,6 @@ impl<L: Law> Attempts<L> {
     }
 
     /// Opens an object for reading, and answers its value.
-    #[inline(always)]
     pub fn read(&mut self, table: &Table<L>, object: u32) -> Result<Val, NotOpened>
         requires table { home_of self.old.caller ≡ table.now }
         ensures keeps { Keeps self.old.caller self.new.caller }
@@ -152,7 +151,6 @@ impl<L: Law> Attempts<L> {
     }
 
     /// Opens an object for reading and writing, and answers its value.
-    #[inline(always)]
     pub fn write(&mut self, table: &Table<L>, object: u32) -> Result<Val, NotOpened>
         requires table { home_of self.old.caller ≡ table.now }
         ensures keeps { Keeps self.old.caller self.new.caller }

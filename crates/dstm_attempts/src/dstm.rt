@@ -33,7 +33,6 @@ impl<L: Law> Calls<L, Stm<L>> for Caller<L> {
         Ok(())
     }
 
-    #[inline(always)]
     fn read(&mut self, going: &mut bool, stm: &Stm<L>, object: u32) -> Result<Val, NotOpened> {
         self.may_open(*going, stm, object)?;
         let mut tx = self.resume(stm);
@@ -46,7 +45,6 @@ impl<L: Law> Calls<L, Stm<L>> for Caller<L> {
         }
     }
 
-    #[inline(always)]
     fn write(&mut self, going: &mut bool, stm: &Stm<L>, object: u32) -> Result<Val, NotOpened> {
         self.may_open(*going, stm, object)?;
         let mut tx = self.resume(stm);
@@ -80,7 +78,7 @@ impl<L: Law> Calls<L, Stm<L>> for Caller<L> {
         if *going { Look::Same } else { Look::Changed }
     }
 
-    #[inline(always)]
+    #[inline]
     fn may_open(&self, going: bool, stm: &Stm<L>, object: u32) -> Result<(), NotOpened> {
         if !going {
             return Err(NotOpened::Over);
