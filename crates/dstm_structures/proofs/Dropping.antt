@@ -1,14 +1,14 @@
 -- What the calls that take a key out of an order do, and what adding and taking out does to the whole order.
-use Rattle.std.proofs.Common.{◌≡◌, ◌∙◌, ℕ, ◌+◌, ◌*◌, ◌/◌, ◌%◌, ◌^◌, ◌<◌, ◌≤◌, ◌==◌, Bool, true, false, List, ap, arith, cond, length, get_or-set_same, get_or-set_other, refl, sym, subst, slice_set, ◌⊎◌, inl, inr}
+use Rattle.std.proofs.Common.{◌≡◌, ◌∙◌, ℕ, ◌+◌, ◌*◌, ◌/◌, ◌%◌, ◌^◌, ◌<◌, ◌≤◌, ◌==◌, Bool, true, false, List, ap, arith, cond, refl, sym, subst, ◌⊎◌, inl, inr}
 use Rattle.dstm_model.specs.declared.value.Val.{Val}
-use Rattle.dstm_model.specs.Map.{no_value, value_at}
+use Rattle.dstm_model.specs.Map.{value_at}
 use Rattle.dstm_structures.specs.Maps.{key_of}
-use Rattle.dstm_structures.specs.Orders.{Below, Has, HoldsIn, KeepsButForks, Trie, fork, left_in, level_in, link_in, link_to, low_of, order_end, right_in, root_in, tip, words_of}
-use Rattle.dstm_structures.specs.Tips.{AddsKey, AddsTip, DropsKey, DropsTip, FreesFork, Gains, KeepsButOrder, LeavesNone, LeavesRest, LooksFork, Loses, SetsSide, TellsFork, Uses, key_told, words_at}
+use Rattle.dstm_structures.specs.Orders.{Below, Has, HoldsIn, KeepsButForks, Trie, fork, left_in, level_in, link_in, link_to, low_of, right_in, root_in, tip, words_of}
+use Rattle.dstm_structures.specs.Tips.{AddsKey, AddsTip, DropsKey, DropsTip, FreesFork, Gains, KeepsButOrder, LeavesNone, LeavesRest, LooksFork, Loses, SetsRoot, SetsSide, TellsFork, Uses, key_told, words_at}
 use Rattle.dstm_structures.specs.declared.cells.Rows.{Rows}
 use Rattle.dstm_structures.specs.declared.order.Fork.{Fork}
 use Rattle.dstm_structures.specs.declared.order.Link.TheVariants.{Nothing, Tip}
-use Rattle.dstm_structures.proofs.Doing.{Reads, Writes}
+use Rattle.dstm_structures.proofs.Doing.{Reads}
 use Rattle.dstm_structures.proofs.Forks.{to_fork}
 use Rattle.dstm_structures.proofs.Losing.{loses_all_left, loses_all_right, loses_left, loses_right, loses_tip}
 use Rattle.dstm_structures.proofs.Ordering.{IsFork, fork-is, led}
@@ -291,30 +291,20 @@ module _ (cells : Rows) where
 
   -- ---- the whole order
 
-  module _ (o p root was now told : ℕ) (before mid near after : List Val)
-      (o_is : o ≡ first + 3 * n) (p_is : p ≡ first + 3 * n) (told_is : told ≡ now) (reads : Reads low_of o root before mid)
-      (keeps : KeepsButForks first n before near) (long : order_end cells ≤ length near)
-      (writes : Writes low_of p was told near after) where
-    whole : after ≡ slice_set near (first + 3 * n) writes.kept
-    whole = writes.after_is ∙ ap (λ (x : ℕ). slice_set near x writes.kept) p_is
-
+  module _ (o root now : ℕ) (before mid near after : List Val) (o_is : o ≡ first + 3 * n)
+      (reads : Reads low_of o root before mid) (keeps : KeepsButForks first n before near)
+      (sets : SetsRoot cells root now near after) where
     pub root_was : root ≡ root_in first n before
     root_was = reads.is ∙ ap (λ (x : ℕ). low_of (value_at before x)) o_is
 
     pub root_now : root_in first n after ≡ now
-    root_now =
-        ap (λ (xs : List Val). low_of (value_at xs (first + 3 * n))) whole
-        ∙ ap low_of (get_or-set_same near (first + 3 * n) writes.kept no_value (omega (arith, long))) ∙ writes.is ∙ told_is
-
-    kept_there : (x : ℕ) → (x ≡ first + 3 * n → ⊥) → value_at after x ≡ value_at near x
-    kept_there x apart =
-        ap (λ (xs : List Val). value_at xs x) whole ∙ get_or-set_other near (first + 3 * n) x writes.kept no_value apart
+    root_now = sets.is (ap low_of (keeps (first + 3 * n) (inl (omega arith))) ∙ sym root_was)
 
     words_same : (c : ℕ) → words_at cells after c ≡ words_at cells near c
-    words_same c = ap words_of (kept_there (first + 3 * n + 1 + c) (λ e. omega (arith, e)))
+    words_same c = ap words_of (sets.others (first + 3 * n + 1 + c) (λ e. omega (arith, e)))
 
     keys_same : (a : ℕ) → a < n → key_told cells after a ≡ key_told cells near a
-    keys_same a here = ap key_of (kept_there (first + n + a) (λ e. omega (arith, e, here)))
+    keys_same a here = ap key_of (sets.others (first + n + a) (λ e. omega (arith, e, here)))
 
     held_there : (t : Trie) → HoldsIn first n near t → HoldsIn first n after t
     held_there t held =
@@ -323,8 +313,8 @@ module _ (cells : Rows) where
         (λ c used. words_same c) held
 
     pub order_keeps : KeepsButOrder cells before after
-    order_keeps x (inl low) = kept_there x (λ e. omega (arith, e, low)) ∙ keeps x (inl (omega (arith, low)))
-    order_keeps x (inr high) = kept_there x (λ e. omega (arith, e, high, some_place)) ∙ keeps x (inr high)
+    order_keeps x (inl low) = sets.others x (λ e. omega (arith, e, low)) ∙ keeps x (inl (omega (arith, low)))
+    order_keeps x (inr high) = sets.others x (λ e. omega (arith, e, high, some_place)) ∙ keeps x (inr high)
       where
         some_place : 0 < n
         some_place = cells.some

@@ -5,8 +5,8 @@ use Rattle.dstm_model.specs.declared.value.Val.{Val}
 use Rattle.dstm_model.specs.Map.{no_value, value_at}
 use Rattle.dstm_structures.specs.Circles.{behind}
 use Rattle.dstm_structures.specs.Maps.{key_of}
-use Rattle.dstm_structures.specs.Orders.{Below, Has, HoldsIn, KeepsButForks, Trie, fork, left_in, level_in, link_in, link_to, order_end, right_in, tip, words_of}
-use Rattle.dstm_structures.specs.Tips.{AddsBeside, AddsOver, AddsTip, FreeFork, FreesFork, Gains, KeepsButFork, LooksFork, NoFreeFork, SetsFork, SetsSide, TellsFork, key_told, words_at}
+use Rattle.dstm_structures.specs.Orders.{Below, Has, HoldsIn, KeepsButForks, Trie, fork, left_in, level_in, link_in, link_to, low_of, order_end, right_in, tip, words_of}
+use Rattle.dstm_structures.specs.Tips.{AddsBeside, AddsOver, AddsTip, FreeFork, FreesFork, Gains, KeepsButFork, LooksFork, NoFreeFork, SetsFork, SetsRoot, SetsSide, TellsFork, key_told, words_at}
 use Rattle.dstm_structures.specs.declared.cells.Rows.{Rows}
 use Rattle.dstm_structures.specs.declared.order.Fork.{Fork}
 use Rattle.dstm_structures.specs.declared.order.Link.{Link}
@@ -135,6 +135,24 @@ module _ (cells : Rows) where
     };
     others = sets.others;
   }
+
+  -- ---- the link to the whole trie
+
+  -- it is that one already
+  pub root_is : (was now : ℕ) (values : List Val) → was ≡ now → SetsRoot cells was now values values
+  root_is was now values is = record { is = λ e. e ∙ is; others = λ o apart. refl }
+
+  pub root_set : (o was had now : ℕ) (before after : List Val) → order_end cells ≤ length before → o ≡ first + 3 * n →
+      Writes low_of o had now before after → SetsRoot cells was now before after
+  root_set o was had now before after size at writes = record {
+    is = λ _. ap (λ (xs : List Val). low_of (value_at xs (first + 3 * n))) written
+        ∙ ap low_of (get_or-set_same before (first + 3 * n) writes.kept no_value (omega (arith, size))) ∙ writes.is;
+    others = λ x other. ap (λ (xs : List Val). value_at xs x) written
+        ∙ get_or-set_other before (first + 3 * n) x writes.kept no_value other;
+  }
+    where
+      written : after ≡ slice_set before (first + 3 * n) writes.kept
+      written = writes.after_is ∙ ap (λ (x : ℕ). slice_set before x writes.kept) at
 
   -- ---- the search for a free one
 

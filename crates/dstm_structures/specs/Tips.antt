@@ -75,6 +75,13 @@ module _ (cells : Rows) where
   SeeksFork None before after = NoFreeFork before after
   SeeksFork (Some cell) before after = FreeFork cell before after
 
+  -- ---- the link to the whole trie
+
+  -- the link to the whole trie is this now, where it was that one
+  pub record SetsRoot (was now : ℕ) (before after : List Val) : Type 0 where
+    pub is : root_in cells.first cells.capacity before ≡ was → root_in cells.first cells.capacity after ≡ now
+    pub others : (o : ℕ) → o ≢ cells.first + 3 * cells.capacity → value_at after o ≡ value_at before o
+
   -- ---- a tip more
 
   -- a trie has got this tip, by a fork in this cell, and keeps those that it had

@@ -4,7 +4,7 @@ ghost use Rattle.dstm_cells.specs.Alternatives.{Notes, noting};
 ghost use Rattle.dstm_cells.specs.UnderWay.{Keeps};
 ghost use Rattle.dstm_structures.specs.Effects.{Does, Stops};
 ghost use Rattle.dstm_structures.specs.Orders.{order_end};
-ghost use Rattle.dstm_structures.specs.Tips.{AddsBeside, AddsKey, AddsOver, AddsTip, DropsKey, DropsTip, FreesFork, LooksFork, SeeksFork, SetsFork, SetsSide};
+ghost use Rattle.dstm_structures.specs.Tips.{AddsBeside, AddsKey, AddsOver, AddsTip, DropsKey, DropsTip, FreesFork, LooksFork, SeeksFork, SetsFork, SetsRoot, SetsSide};
 
 use crate::cells::behind;
 use crate::order::{Fork, Link, Order, fork_of, held_of, to_fork, to_tip};
@@ -33,7 +33,7 @@ impl Order {
         let _ = beyond(added.key);
         let root = tx.get(self.root_at())?;
         let now = self.add_below(tx, added, root, 64)?;
-        tx.set(self.root_at(), now)?;
+        self.set_root(tx, root, now)?;
         Ok(())
     }
 
@@ -47,7 +47,7 @@ impl Order {
     {
         let root = tx.get(self.root_at())?;
         let now = self.drop_below(tx, key, at, root, 64)?;
-        tx.set(self.root_at(), now)?;
+        self.set_root(tx, root, now)?;
         Ok(())
     }
 
@@ -286,11 +286,28 @@ impl Order {
         ensures stops { IfErr result (λ stop. Stops (order_end self.cells) tx.old.notes tx.old.attempts.caller stop.why) }
         ensures sets { OnOk result (Does L.holds (order_end self.cells) (SetsSide self.cells cell fork greater link)
             tx.old.attempts.caller tx.new.attempts.caller) }
+        ensures stays { (if greater then fork.right else fork.left) ≡ link → tx.new ≡ tx.old }
     {
         if fork.side(greater) == link {
             return Ok(());
         }
         self.set_fork(tx, cell, with_side(fork, greater, link))?;
+        Ok(())
+    }
+
+    // Sets the link to the whole trie, where that is another one.
+    fn set_root<L: Law>(self, tx: &mut Tx<'_, L>, was: u64, now: u64) -> Result<(), Stop>
+        ensures keeps { Keeps tx.old.attempts.caller tx.new.attempts.caller }
+        ensures notes { Notes L.holds (noting tx.old) (noting tx.new) }
+        ensures stops { IfErr result (λ stop. Stops (order_end self.cells) tx.old.notes tx.old.attempts.caller stop.why) }
+        ensures sets { OnOk result (Does L.holds (order_end self.cells) (SetsRoot self.cells was now)
+            tx.old.attempts.caller tx.new.attempts.caller) }
+        ensures stays { was ≡ now → tx.new ≡ tx.old }
+    {
+        if was == now {
+            return Ok(());
+        }
+        tx.set(self.root_at(), now)?;
         Ok(())
     }
 
