@@ -121,6 +121,14 @@ impl<'a> Fields<'a> {
         Fields { rest: line }
     }
 
+    /// The bytes that they are the fields of: what is left of the line.
+    #[inline(always)]
+    pub fn rest(&self) -> &'a [u8]
+        ensures { fields_of result.now ≡ self.now }
+    {
+        self.rest
+    }
+
     /// Takes the next field.
     pub fn next(&mut self) -> Option<&'a [u8]>
         ensures some { IfSome result (λ field. self.old ≡ field.now ∷ self.new) }

@@ -78,6 +78,10 @@ fn with_digit(number: u64, digit: u8) -> Option<u64>
 pub(crate) fn number_before_space(line: &[u8]) -> Option<(u64, usize)>
     ensures { IfSome result (λ r. StandsBeforeSpace line.now r.1 r.0) }
 {
+    // Most numbers have one digit.
+    if let [digit @ b'0'..=b'9', b' ', ..] = line {
+        return Some((u64::from(*digit - b'0'), 1));
+    }
     let (number, end) = digits_at_front(line);
     if !is_plain(line, end) {
         return None;
