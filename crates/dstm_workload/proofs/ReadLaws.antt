@@ -47,13 +47,13 @@ word_ok version field w is =
     (found (λ word. bytes_eq (spelling word) field && leb (since word) version) words w is) in
     (leb-true (since w) version both.1, sym ((bytes_eq-Decides (spelling w) field).0 both.0))
 
-spelled_is : (field : List ℕ) (w : Word) → word_spelled field ≡ Some w → field ≡ spelling w
+pub spelled_is : (field : List ℕ) (w : Word) → word_spelled field ≡ Some w → field ≡ spelling w
 unfolding word_spelled
 spelled_is field w is =
     sym ((bytes_eq-Decides (spelling w) field).0 (found (λ word. bytes_eq (spelling word) field) words w is))
 
 -- a version has a word from its first version on
-word_by : (version : ℕ) (w : Word) → word_of version (spelling w) ≡ cond (leb (since w) version) (Some w) None
+pub word_by : (version : ℕ) (w : Word) → word_of version (spelling w) ≡ cond (leb (since w) version) (Some w) None
 unfolding word_of
 word_by version Workers = refl
 word_by version other = refl

@@ -10,7 +10,7 @@ use crate::fields::number;
 use crate::known::Known;
 use crate::operations::operations;
 use crate::refused::Why;
-use crate::word::Word;
+use crate::word::{Word, first_field};
 use crate::workload::{Job, MAX_JOBS, VERSIONS};
 use dstm_model::Ops;
 use dstm_text::{Fields, decimal};
@@ -26,7 +26,7 @@ pub fn entry(known: &mut Known, jobs: &mut Vec<Job>, line: u64, text: &[u8]) -> 
         return Ok(());
     }
     let mut fields = Fields::new(text);
-    let Some(first) = fields.next() else {
+    let Some(first) = first_field(&mut fields) else {
         return Ok(());
     };
     if !is_printable(text) {

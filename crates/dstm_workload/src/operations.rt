@@ -14,7 +14,7 @@ ghost use Rattle.dstm_workload.specs.Operations.{next_at, ops_at, HasRoom};
 use crate::fields::operand;
 use crate::known::Known;
 use crate::refused::Why;
-use crate::word::Word;
+use crate::word::{Word, next_word, operation_word, semicolon_word, structure_word};
 use crate::workload::MAX_OPS;
 use dstm_model::{AMOUNT_LIMIT, Cond, KEY_LIMIT, Op, Ops, Which};
 use dstm_text::Fields;
@@ -73,10 +73,11 @@ fn next_separator(fields: &mut Fields<'_>, version: u32, done: usize) -> Result<
     ensures read { IsRead result (λ n. (n, fields.new)) (next_at version done fields.old) }
     ensures room { IfOk result (HasRoom done) }
 {
-    let Some(field) = fields.next() else {
+    let found = semicolon_word(fields.rest());
+    let Some((_, word)) = next_word(found, fields, version) else {
         return Ok(Separator::End);
     };
-    match Word::of(field, version) {
+    match word {
         Some(Word::Semicolon) if done < MAX_OPS => Ok(Separator::Then),
         Some(Word::OrElse) if done + 1 < MAX_OPS => Ok(Separator::OrElse),
         Some(Word::Semicolon | Word::OrElse) => Err(Why::TooMany),
@@ -88,8 +89,9 @@ fn next_separator(fields: &mut Fields<'_>, version: u32, done: usize) -> Result<
 fn operation(fields: &mut Fields<'_>, known: &Known, version: u32, first: bool) -> Result<Op, Why>
     ensures { IsRead result (λ o. (o, fields.new)) (op_at version known.now first fields.old) }
 {
-    let field = fields.next().ok_or(Why::Missing)?;
-    match Word::of(field, version) {
+    let found = operation_word(fields.rest());
+    let (_, word) = next_word(found, fields, version).ok_or(Why::Missing)?;
+    match word {
         Some(Word::Transfer) => transfer(fields, known, version),
         Some(Word::Balance) => balance(fields, known, version),
         Some(Word::Total) => total(fields, known, version),
@@ -243,8 +245,9 @@ fn place(fields: &mut Fields<'_>, known: &Known, version: u32) -> Result<(Which,
 fn structure(fields: &mut Fields<'_>, known: &Known, version: u32) -> Result<Which, Why>
     ensures { IsRead result (λ w. (w, fields.new)) (structure_at version known.now fields.old) }
 {
-    let field = fields.next().ok_or(Why::Missing)?;
-    let (which, size) = match Word::of(field, version) {
+    let found = structure_word(fields.rest());
+    let (_, word) = next_word(found, fields, version).ok_or(Why::Missing)?;
+    let (which, size) = match word {
         Some(Word::List) => (Which::List, known.list),
         Some(Word::Tree) => (Which::Tree, known.tree),
         Some(Word::Semicolon) => return Err(Why::Missing),
