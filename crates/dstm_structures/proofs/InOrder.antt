@@ -1,12 +1,12 @@
 -- What an ordered map tells of its keys where its cells are in order, and what keeps them in order.
-use Rattle.std.proofs.Common.{◌≡◌, ◌∙◌, ℕ, ◌+◌, ◌*◌, ◌<◌, ◌≤◌, true, false, List, ap, arith, cond, refl, sym, subst, ◌⊎◌, inl, inr, nat_lt}
+use Rattle.std.proofs.Common.{◌≡◌, ◌∙◌, ℕ, ◌+◌, ◌*◌, ◌<◌, ◌≤◌, Bool, true, false, List, ap, arith, cond, refl, sym, subst, ◌⊎◌, inl, inr, nat_lt}
 use Rattle.std.specs.Prelude.{Option, None, Some}
 use Rattle.dstm_model.specs.declared.value.Val.{Val}
 use Rattle.dstm_model.specs.Map.{value_at}
 use Rattle.dstm_structures.specs.Places.{is_key}
 use Rattle.dstm_structures.specs.Maps.{at_place, item_of, key_of, keys_in, place_in, reach_of, values_in}
-use Rattle.dstm_structures.specs.Ordered.{IsFirst, IsFirstAbove, IsInOrder, IsLast, Looks, TellsAbove, TellsFirst, TellsLast, entry_at, entry_of}
-use Rattle.dstm_structures.specs.Orders.{Trie, tip, fork, Has, EndsAll, FollowsAll, Holds, IsEdge, IsNext, IsOrdered, IsOrderedBy, forks_in, left_in, level_in, low_of, order_end, right_in, root_in, words_of}
+use Rattle.dstm_structures.specs.Ordered.{IsEnd, IsFirst, IsFirstAbove, IsInOrder, IsLast, Looks, TellsAbove, TellsEnd, TellsInOrder, entry_at, entry_of}
+use Rattle.dstm_structures.specs.Orders.{Trie, tip, fork, Has, EndsAll, FollowsAll, Holds, IsBare, IsEdge, IsNext, IsOrdered, IsOrderedBy, forks_in, left_in, level_in, low_of, order_end, right_in, root_in, words_of}
 use Rattle.dstm_structures.specs.declared.ordered.OrderedMap.{OrderedMap}
 use Rattle.dstm_structures.proofs.Maps.{place-holds, place-kept}
 use Rattle.dstm_structures.proofs.Places.{none_not}
@@ -116,17 +116,14 @@ module _ {V : Type 0} (found : Val → V) (map : OrderedMap V) where
         is ∙ ap (λ (o : Option ℕ). entry_of found map o (values_in found f n values at))
         (place-holds f n map.map.cells.some values key at (by.there at key h)).0
 
-    first-by : (place : Option ℕ) (answer : Option (ℕ × V)) → IsEdge false place t → answer ≡ entry_at found map values place →
-        IsFirst found map answer values
-    first-by None answer e is = absurd e
-    first-by (Some at) answer e is =
+    end-by : (greatest : Bool) (place : Option ℕ) (answer : Option (ℕ × V)) → IsEdge greatest place t →
+        answer ≡ entry_at found map values place → IsEnd found map greatest answer values
+    end-by false None answer e is = absurd e
+    end-by true None answer e is = absurd e
+    end-by false (Some at) answer e is =
         subst (λ (a : Option (ℕ × V)). IsFirst found map a values) (sym (seen-at at e.0 answer e.1 is))
         (had at e.0 e.1, λ k less. unhad k (λ q h. omega (arith, less, e.2 q k h)))
-
-    last-by : (place : Option ℕ) (answer : Option (ℕ × V)) → IsEdge true place t → answer ≡ entry_at found map values place →
-        IsLast found map answer values
-    last-by None answer e is = absurd e
-    last-by (Some at) answer e is =
+    end-by true (Some at) answer e is =
         subst (λ (a : Option (ℕ × V)). IsLast found map a values) (sym (seen-at at e.0 answer e.1 is))
         (had at e.0 e.1, λ k more. unhad k (λ q h. omega (arith, more, e.2 q k h)))
 
@@ -144,58 +141,41 @@ module _ {V : Type 0} (found : Val → V) (map : OrderedMap V) where
 
   -- ---- what is told
 
-  -- what was seen is what was there before
-  seen-before : (place : Option ℕ) (answer : Option (ℕ × V)) (before mid after : List Val) → mid ≡ before →
-      Looks found map place answer mid after → answer ≡ entry_at found map before place
-  seen-before place answer before mid after same l =
-      l.is ∙ ap (λ (v : List Val). entry_at found map v place) same
+  -- no key is there
+  bare-has : (values : List Val) → IsBare f n values → (k : ℕ) → item_of found map.map values k ≡ None
+  bare-has values bare k = ap (at_place (values_in found f n values)) (bare.none k)
 
-  -- where nothing is found, nothing is told
-  nothing-at : (place : Option ℕ) (answer : Option (ℕ × V)) (values : List Val) → place ≡ None →
-      answer ≡ entry_at found map values place → answer ≡ None
-  nothing-at place answer values none is = is ∙ ap (entry_at found map values) none
+  no-end : (greatest : Bool) (values : List Val) → IsBare f n values → IsEnd found map greatest None values
+  no-end false values bare = bare-has values bare
+  no-end true values bare = bare-has values bare
 
-  pub tells-first : (place : Option ℕ) (answer : Option (ℕ × V)) (before mid after : List Val) →
-      EndsAll map.map.cells false place before mid → Looks found map place answer mid after →
-      TellsFirst found map answer before after
-  tells-first place answer before mid after e l = record { is = λ order. by order; same = l.same ∙ e.same }
+  -- what holds of nothing where no key is there, and of what a place holds where it is found by a trie
+  told : (holds : Option (ℕ × V) → List Val → Type 0) (place : Option ℕ) (answer : Option (ℕ × V))
+      (before mid after : List Val) → Looks found map place answer mid after → mid ≡ before →
+      (root_in f n before ≡ 0 → place ≡ None) → (IsBare f n before → holds None before) →
+      ((t : Trie) → IsOrderedBy f n t before → answer ≡ entry_at found map before place → holds answer before) →
+      TellsInOrder map (holds answer) before after
+  told holds place answer before mid after l same nowhere nothing something = record { is = by; same = l.same ∙ same }
     where
       is : answer ≡ entry_at found map before place
-      is = seen-before place answer before mid after e.same l
+      is = l.is ∙ ap (λ (v : List Val). entry_at found map v place) same
 
-      by : IsInOrder map before → IsFirst found map answer before
+      by : IsInOrder map before → holds answer before
       by (inl bare) =
-          subst (λ (a : Option (ℕ × V)). IsFirst found map a before)
-          (sym (nothing-at place answer before (e.bare bare.root) is))
-          (λ k. ap (at_place (values_in found f n before)) (bare.none k))
-      by (inr (t, o)) = first-by t before o place answer (e.is t o) is
+          subst (λ (a : Option (ℕ × V)). holds a before) (sym (is ∙ ap (entry_at found map before) (nowhere bare.root)))
+          (nothing bare)
+      by (inr (t, o)) = something t o is
 
-  pub tells-last : (place : Option ℕ) (answer : Option (ℕ × V)) (before mid after : List Val) →
-      EndsAll map.map.cells true place before mid → Looks found map place answer mid after →
-      TellsLast found map answer before after
-  tells-last place answer before mid after e l = record { is = λ order. by order; same = l.same ∙ e.same }
-    where
-      is : answer ≡ entry_at found map before place
-      is = seen-before place answer before mid after e.same l
-
-      by : IsInOrder map before → IsLast found map answer before
-      by (inl bare) =
-          subst (λ (a : Option (ℕ × V)). IsLast found map a before)
-          (sym (nothing-at place answer before (e.bare bare.root) is))
-          (λ k. ap (at_place (values_in found f n before)) (bare.none k))
-      by (inr (t, o)) = last-by t before o place answer (e.is t o) is
+  pub tells-end : (greatest : Bool) (place : Option ℕ) (answer : Option (ℕ × V)) (before mid after : List Val) →
+      EndsAll map.map.cells greatest place before mid → Looks found map place answer mid after →
+      TellsEnd found map greatest answer before after
+  tells-end greatest place answer before mid after e l =
+      told (IsEnd found map greatest) place answer before mid after l e.same e.bare (no-end greatest before)
+      (λ t o is. end-by t before o greatest place answer (e.is t o) is)
 
   pub tells-above : (key : ℕ) (place : Option ℕ) (answer : Option (ℕ × V)) (before mid after : List Val) →
       FollowsAll map.map.cells key place before mid → Looks found map place answer mid after →
       TellsAbove found map key answer before after
-  tells-above key place answer before mid after e l = record { is = λ order. by order; same = l.same ∙ e.same }
-    where
-      is : answer ≡ entry_at found map before place
-      is = seen-before place answer before mid after e.same l
-
-      by : IsInOrder map before → IsFirstAbove found map key answer before
-      by (inl bare) =
-          subst (λ (a : Option (ℕ × V)). IsFirstAbove found map key a before)
-          (sym (nothing-at place answer before (e.bare bare.root) is))
-          (λ k more. ap (at_place (values_in found f n before)) (bare.none k))
-      by (inr (t, o)) = above-by t before o key place answer (e.is t o) is
+  tells-above key place answer before mid after e l =
+      told (IsFirstAbove found map key) place answer before mid after l e.same e.bare
+      (λ bare k more. bare-has before bare k) (λ t o is. above-by t before o key place answer (e.is t o) is)

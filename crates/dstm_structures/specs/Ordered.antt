@@ -1,5 +1,5 @@
 -- What the calls on an ordered map do, by what its cells hold.
-use Rattle.std.specs.Prelude.{◌≡◌, ◌≢◌, ◌⊎◌, ℕ, ◌+◌, ◌*◌, ◌<◌, ◌≤◌, true, List, ◌++◌, length, Option, None, Some, is_some}
+use Rattle.std.specs.Prelude.{◌≡◌, ◌≢◌, ◌⊎◌, ℕ, ◌+◌, ◌*◌, ◌<◌, ◌≤◌, Bool, true, false, List, ◌++◌, length, Option, None, Some, is_some}
 use Rattle.dstm_model.specs.declared.value.Val.{Val}
 use Rattle.dstm_model.specs.Map.{value_at}
 use Rattle.dstm_structures.specs.Maps.{Tells, item_of, key_at, place_in, values_in}
@@ -17,6 +17,11 @@ module _ {V : Type 0} (map : OrderedMap V) where
   abbrev pub KeepsOthers : List Val → List Val → Type 0
   KeepsOthers before after =
       (o : ℕ) → (o < map.map.cells.first) ⊎ (order_end map.map.cells ≤ o) → value_at after o ≡ value_at before o
+
+  -- where the cells are in order, this holds by the values before, and nothing was set
+  pub record TellsInOrder (holds : List Val → Type 0) (before after : List Val) : Type 0 where
+    pub is : IsInOrder before → holds before
+    pub same : after ≡ before
 
 module _ {V : Type 0} (found : Val → V) (map : OrderedMap V) where
   -- A KEY HAS THIS NOW, and had that before; every other key has what it had, no object around the map was set, and where
@@ -83,6 +88,11 @@ module _ {V : Type 0} (found : Val → V) (map : OrderedMap V) where
       (item_of found map.map values entry.0 ≡ Some entry.1)
       × ((k : ℕ) → entry.0 < k → item_of found map.map values k ≡ None)
 
+  -- the first one or the last one
+  abbrev pub IsEnd : (greatest : Bool) → Option (ℕ × V) → List Val → Type 0
+  IsEnd false answer values = IsFirst answer values
+  IsEnd true answer values = IsLast answer values
+
   -- this is the first key above another one
   abbrev pub IsFirstAbove : ℕ → Option (ℕ × V) → List Val → Type 0
   IsFirstAbove key None values = (k : ℕ) → key < k → item_of found map.map values k ≡ None
@@ -97,19 +107,20 @@ module _ {V : Type 0} (found : Val → V) (map : OrderedMap V) where
     pub same : after ≡ before
 
   -- THE FIRST KEY WAS TOLD, with its value, where the cells are in order, and nothing was set
-  pub record TellsFirst (answer : Option (ℕ × V)) (before after : List Val) : Type 0 where
-    pub is : IsInOrder map before → IsFirst answer before
-    pub same : after ≡ before
+  abbrev pub TellsFirst : Option (ℕ × V) → List Val → List Val → Type 0
+  TellsFirst answer = TellsInOrder map (IsFirst answer)
 
   -- the last key
-  pub record TellsLast (answer : Option (ℕ × V)) (before after : List Val) : Type 0 where
-    pub is : IsInOrder map before → IsLast answer before
-    pub same : after ≡ before
+  abbrev pub TellsLast : Option (ℕ × V) → List Val → List Val → Type 0
+  TellsLast answer = TellsInOrder map (IsLast answer)
+
+  -- the first one or the last one
+  abbrev pub TellsEnd : (greatest : Bool) → Option (ℕ × V) → List Val → List Val → Type 0
+  TellsEnd greatest answer = TellsInOrder map (IsEnd greatest answer)
 
   -- the first key above another one
-  pub record TellsAbove (key : ℕ) (answer : Option (ℕ × V)) (before after : List Val) : Type 0 where
-    pub is : IsInOrder map before → IsFirstAbove key answer before
-    pub same : after ≡ before
+  abbrev pub TellsAbove : ℕ → Option (ℕ × V) → List Val → List Val → Type 0
+  TellsAbove key answer = TellsInOrder map (IsFirstAbove key answer)
 
   -- THE FIRST KEY WAS TAKEN OUT, where the cells were in order
   pub record TakesFirst (entry : ℕ × V) (before after : List Val) : Type 0 where

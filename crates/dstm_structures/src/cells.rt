@@ -25,6 +25,16 @@ pub struct Rows {
     ghost few: { first + 3 * capacity ≤ 524288 },
 }
 
+impl Rows {
+    // The cell that tells the key of a place.
+    pub(crate) fn key_at(self, at: u32) -> Cell<Option<u64>>
+        requires { at < self.capacity }
+        ensures { result.object ≡ self.first + self.capacity + at }
+    {
+        cell(self.first + self.capacity + at)
+    }
+}
+
 // The cell of this number.
 pub(crate) fn cell<T: Word>(number: u32) -> Cell<T>
     ensures { result.object ≡ number }

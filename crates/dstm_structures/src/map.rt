@@ -143,7 +143,7 @@ impl<V: Word> HashMap<V> {
         let reach = self.reach(tx, home)?;
         for passed in 0..reach {
             let at = behind(self.cells.capacity, home, passed);
-            let held = tx.get(self.key_at(at))?;
+            let held = tx.get(self.cells.key_at(at))?;
             if is_key(key, held) {
                 return Ok(Some(at));
             }
@@ -188,7 +188,7 @@ impl<V: Word> HashMap<V> {
     {
         let reach = self.reach(tx, home)?;
         for passed in 0..self.cells.capacity {
-            let held = tx.get(self.key_at(behind(self.cells.capacity, home, passed)))?;
+            let held = tx.get(self.cells.key_at(behind(self.cells.capacity, home, passed)))?;
             if self.is_free(home, passed >= reach, held) {
                 return Ok(Some(passed));
             }
@@ -205,7 +205,7 @@ impl<V: Word> HashMap<V> {
         ensures stores { OnOk result (Does L.holds (end_of self) (Stores V.found self at key value)
             tx.old.attempts.caller tx.new.attempts.caller) }
     {
-        tx.set(self.key_at(at), Some(key))?;
+        tx.set(self.cells.key_at(at), Some(key))?;
         tx.set(self.value_at(at), value)?;
         Ok(())
     }
@@ -253,11 +253,11 @@ impl<V: Word> HashMap<V> {
         ensures empties { OnOk result (Does L.holds (end_of self) (Empties self at key)
             tx.old.attempts.caller tx.new.attempts.caller) }
     {
-        let held = tx.get(self.key_at(at))?;
+        let held = tx.get(self.cells.key_at(at))?;
         if !is_key(key, held) {
             return Ok(());
         }
-        tx.set(self.key_at(at), None)?;
+        tx.set(self.cells.key_at(at), None)?;
         Ok(())
     }
 
@@ -304,14 +304,6 @@ impl<V: Word> HashMap<V> {
         ensures { result.object ≡ self.cells.first + home }
     {
         cell(self.cells.first + home)
-    }
-
-    // The cell that tells the key of a place.
-    pub(crate) fn key_at(self, at: u32) -> Cell<Option<u64>>
-        requires { at < self.cells.capacity }
-        ensures { result.object ≡ self.cells.first + self.cells.capacity + at }
-    {
-        cell(self.cells.first + self.cells.capacity + at)
     }
 
     // The cell that holds the value of a place.

@@ -167,7 +167,7 @@ impl Order {
         match self.link(link) {
             Link::Nothing => Ok(None),
             Link::Tip(at) => {
-                let held = tx.get(self.key_at(at))?;
+                let held = tx.get(self.cells.key_at(at))?;
                 if is_above(key, held) {
                     Ok(Some(at))
                 } else {
@@ -233,14 +233,6 @@ impl Order {
         ensures { result.object ≡ self.cells.first + 3 * self.cells.capacity + 1 + at }
     {
         cell(self.cells.first + 3 * self.cells.capacity + 1 + at)
-    }
-
-    // The cell that tells the key of a place.
-    pub(crate) fn key_at(self, at: u32) -> Cell<Option<u64>>
-        requires { at < self.cells.capacity }
-        ensures { result.object ≡ self.cells.first + self.cells.capacity + at }
-    {
-        cell(self.cells.first + self.cells.capacity + at)
     }
 }
 

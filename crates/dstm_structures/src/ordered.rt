@@ -4,13 +4,12 @@ ghost use Rattle.dstm_cells.specs.Alternatives.{Notes, noting};
 ghost use Rattle.dstm_cells.specs.UnderWay.{Keeps};
 ghost use Rattle.dstm_structures.specs.Effects.{Does, Stops};
 ghost use Rattle.dstm_structures.specs.Maps.{Tells, TellsIf, end_of};
-ghost use Rattle.dstm_structures.specs.Ordered.{Adding, Adds, Looks, Pops, Puts, Removes, Takes, TellsAbove, TellsFirst, TellsLast};
+ghost use Rattle.dstm_structures.specs.Ordered.{Adding, Adds, Looks, Pops, Puts, Removes, Takes, TellsAbove, TellsEnd, TellsFirst, TellsLast};
 ghost use Rattle.dstm_structures.specs.Orders.{order_end};
 
 use crate::cells::{Rows, number};
 use crate::map::{HashMap, Placed};
 use crate::order::Order;
-use crate::tips::Added;
 use dstm_cells::{Failed, MOST_CELLS, Memory, Stop, Tx, Word};
 use dstm_model::Law;
 
@@ -119,12 +118,7 @@ impl<V: Word> OrderedMap<V> {
         ensures tells { IfOk result (λ answer. Does L.holds (order_end self.map.cells) (TellsFirst V.found self answer)
             tx.old.attempts.caller tx.new.attempts.caller) }
     {
-        let order = Order {
-            cells: self.map.cells,
-        };
-        let place = order.end(tx, false)?;
-        let entry = self.entry(tx, place)?;
-        Ok(entry)
+        self.end(tx, false)
     }
 
     /// The last key with its value, if there is one.
@@ -135,12 +129,7 @@ impl<V: Word> OrderedMap<V> {
         ensures tells { IfOk result (λ answer. Does L.holds (order_end self.map.cells) (TellsLast V.found self answer)
             tx.old.attempts.caller tx.new.attempts.caller) }
     {
-        let order = Order {
-            cells: self.map.cells,
-        };
-        let place = order.end(tx, true)?;
-        let entry = self.entry(tx, place)?;
-        Ok(entry)
+        self.end(tx, true)
     }
 
     /// The first key above this one with its value, if there is one. The key itself need not be there.
@@ -175,8 +164,29 @@ impl<V: Word> OrderedMap<V> {
         Ok(Some(entry))
     }
 
+    // The first key with its value, or the last one.
+    fn end<L: Law>(self, tx: &mut Tx<'_, L>, greatest: bool) -> Result<Option<(u64, V)>, Stop>
+        ensures keeps { Keeps tx.old.attempts.caller tx.new.attempts.caller }
+        ensures notes { Notes L.holds (noting tx.old) (noting tx.new) }
+        ensures stops { IfErr result (λ stop. Stops (order_end self.map.cells) false tx.old.attempts.caller stop.why) }
+        ensures tells { IfOk result (λ answer. Does L.holds (order_end self.map.cells) (TellsEnd V.found self greatest answer)
+            tx.old.attempts.caller tx.new.attempts.caller) }
+    {
+        let order = Order {
+            cells: self.map.cells,
+        };
+        let place = order.end(tx, greatest)?;
+        let entry = self.entry(tx, place)?;
+        Ok(entry)
+    }
+
     // Adds a key that is not there.
-    fn add<L: Law>(self, tx: &mut Tx<'_, L>, key: u64, value: V) -> Result<Placed<V>, Stop>
+    pub(crate) fn add<L: Law>(
+        self,
+        tx: &mut Tx<'_, L>,
+        key: u64,
+        value: V,
+    ) -> Result<Placed<V>, Stop>
         ensures keeps { Keeps tx.old.attempts.caller tx.new.attempts.caller }
         ensures notes { Notes L.holds (noting tx.old) (noting tx.new) }
         ensures stops { IfErr result (λ stop. Stops (order_end self.map.cells) tx.old.notes tx.old.attempts.caller stop.why) }
@@ -194,7 +204,7 @@ impl<V: Word> OrderedMap<V> {
         let Some(at) = placed else {
             return Ok(Placed::Full);
         };
-        order.add(tx, Added { key, at, cell })?;
+        order.add(tx, key, at, cell)?;
         Ok(Placed::New)
     }
 
@@ -216,7 +226,11 @@ impl<V: Word> OrderedMap<V> {
     }
 
     // The key of a place with its value, if it holds one.
-    fn entry<L: Law>(self, tx: &mut Tx<'_, L>, place: Option<u32>) -> Result<Option<(u64, V)>, Stop>
+    pub(crate) fn entry<L: Law>(
+        self,
+        tx: &mut Tx<'_, L>,
+        place: Option<u32>,
+    ) -> Result<Option<(u64, V)>, Stop>
         requires { IfSome place (λ at. at < self.map.cells.capacity) }
         ensures keeps { Keeps tx.old.attempts.caller tx.new.attempts.caller }
         ensures notes { Notes L.holds (noting tx.old) (noting tx.new) }
@@ -227,7 +241,7 @@ impl<V: Word> OrderedMap<V> {
         let Some(at) = place else {
             return Ok(None);
         };
-        let held = tx.get(self.map.key_at(at))?;
+        let held = tx.get(self.map.cells.key_at(at))?;
         let Some(key) = held else {
             return Ok(None);
         };

@@ -13,26 +13,31 @@ use dstm_model::Law;
 
 // A key that is added: itself, its place, and the cell of the fork that parts it from others.
 #[derive(Clone, Copy)]
-pub struct Added {
-    pub(crate) key: u64,
-    pub(crate) at: u32,
-    pub(crate) cell: u32,
+struct Added {
+    key: u64,
+    at: u32,
+    cell: u32,
 }
 
 impl Order {
     // Adds a key that is not there and stands at this place, by a fork in this cell.
-    pub(crate) fn add<L: Law>(self, tx: &mut Tx<'_, L>, added: Added) -> Result<(), Stop>
-        requires at { added.at < self.cells.capacity }
-        requires cell { added.cell < self.cells.capacity }
+    pub(crate) fn add<L: Law>(
+        self,
+        tx: &mut Tx<'_, L>,
+        key: u64,
+        at: u32,
+        cell: u32,
+    ) -> Result<(), Stop>
+        requires at { at < self.cells.capacity }
+        requires cell { cell < self.cells.capacity }
         ensures keeps { Keeps tx.old.attempts.caller tx.new.attempts.caller }
         ensures notes { Notes L.holds (noting tx.old) (noting tx.new) }
         ensures stops { IfErr result (λ stop. Stops (order_end self.cells) tx.old.notes tx.old.attempts.caller stop.why) }
-        ensures adds { OnOk result (Does L.holds (order_end self.cells) (AddsKey self.cells added.key added.at added.cell)
+        ensures adds { OnOk result (Does L.holds (order_end self.cells) (AddsKey self.cells key at cell)
             tx.old.attempts.caller tx.new.attempts.caller) }
     {
-        let _ = beyond(added.key);
         let root = tx.get(self.root_at())?;
-        let now = self.add_below(tx, added, root, 64)?;
+        let now = self.add_below(tx, Added { key, at, cell }, root, 64)?;
         self.set_root(tx, root, now)?;
         Ok(())
     }
@@ -131,7 +136,7 @@ impl Order {
             (AddsBeside self.cells added.key added.at added.cell place now)
             tx.old.attempts.caller tx.new.attempts.caller) }
     {
-        let held = tx.get(self.key_at(place))?;
+        let held = tx.get(self.cells.key_at(place))?;
         let Some(other) = held else {
             return Ok(to_tip(place));
         };
@@ -334,18 +339,11 @@ fn with_side(fork: Fork, greater: bool, link: u64) -> Fork
 {
     if greater {
         Fork {
-            level: fork.level,
-            prefix: fork.prefix,
-            left: fork.left,
             right: link,
+            ..fork
         }
     } else {
-        Fork {
-            level: fork.level,
-            prefix: fork.prefix,
-            left: link,
-            right: fork.right,
-        }
+        Fork { left: link, ..fork }
     }
 }
 
@@ -356,29 +354,17 @@ fn parted(level: u32, ours: u64, theirs: u64, first: u64, second: u64) -> Fork
     ensures left { result.left ≡ (if nat_lt ours theirs then first else second) }
     ensures right { result.right ≡ (if nat_lt ours theirs then second else first) }
 {
-    if ours < theirs {
-        Fork {
-            level,
-            prefix: ours / 2,
-            left: first,
-            right: second,
-        }
+    let (left, right) = if ours < theirs {
+        (first, second)
     } else {
-        Fork {
-            level,
-            prefix: ours / 2,
-            left: second,
-            right: first,
-        }
+        (second, first)
+    };
+    Fork {
+        level,
+        prefix: ours / 2,
+        left,
+        right,
     }
-}
-
-// The bits of a number beyond the 64th, which are none.
-fn beyond(number: u64) -> u64
-    ensures is { result ≡ number / 2 ^ 64 }
-    ensures none { result ≡ 0 }
-{
-    0
 }
 
 // The greatest level at which two numbers differ.
@@ -388,11 +374,5 @@ fn parting(one: u64, other: u64) -> u32
     ensures differ { one / 2 ^ result ≢ other / 2 ^ result }
     ensures same { one / 2 ^ (result + 1) ≡ other / 2 ^ (result + 1) }
 {
-    let mut level: u32 = 0;
-    for above in 0u32..64 {
-        if one >> above != other >> above {
-            level = above;
-        }
-    }
-    level
+    63 - (one ^ other).leading_zeros()
 }

@@ -1,11 +1,10 @@
-use Rattle.std.proofs.Common.{true}
 use Rattle.dstm_cells.specs.Alternatives.{noting}
-use Rattle.dstm_structures.specs.Ordered.{Looks, TellsLast}
+use Rattle.dstm_structures.specs.Ordered.{Looks, TellsEnd}
 use Rattle.dstm_structures.specs.Orders.{EndsAll, order_end}
 use Rattle.dstm_structures.proofs.Doing.{does-then}
 use Rattle.dstm_structures.proofs.Noting.{notes_twice}
-use Rattle.dstm_structures.proofs.InOrder.{tells-last}
-use Rattle.dstm_structures.proofs.ordered.OrderedMap.last.Goals as goal
+use Rattle.dstm_structures.proofs.InOrder.{tells-end}
+use Rattle.dstm_structures.proofs.ordered.OrderedMap.end.Goals as goal
 
 pub returns-in_err-entry-clause-notes : goal.returns-in_err-entry-clause-notes
 returns-in_err-entry-clause-notes g c =
@@ -19,10 +18,10 @@ returns-clause-notes g c =
 
 pub returns-clause-tells : goal.returns-clause-tells
 returns-clause-tells g c =
-    does-then g.L.Law.holds (order_end c.args.self.map.cells) (EndsAll c.args.self.map.cells true c.in_ok-place.place)
+    does-then g.L.Law.holds (order_end c.args.self.map.cells) (EndsAll c.args.self.map.cells c.args.greatest c.in_ok-place.place)
     (Looks g.V.Word.found c.args.self c.in_ok-place.place c.in_ok-entry.entry)
-    (TellsLast g.V.Word.found c.args.self c.in_ok-entry.entry)
+    (TellsEnd g.V.Word.found c.args.self c.args.greatest c.in_ok-entry.entry)
     c.args.tx.now.attempts.caller c.end.new.tx.attempts.caller c.entry.new.tx.attempts.caller
     c.in_ok-place.ensures.keeps c.in_ok-place.ensures.ends c.in_ok-entry.ensures.looks
-    (λ before mid after size. tells-last g.V.Word.found c.args.self c.in_ok-place.place c.in_ok-entry.entry before mid
-    after)
+    (λ before mid after size. tells-end g.V.Word.found c.args.self c.args.greatest c.in_ok-place.place c.in_ok-entry.entry
+    before mid after)
