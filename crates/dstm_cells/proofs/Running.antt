@@ -1,5 +1,5 @@
 -- What follows for a run from its seats, and from why it failed.
-use Rattle.std.proofs.Common.{◌≡◌, ◌∙◌, ◌∷◌, [], ◌++◌, ◌+◌, ◌<◌, ℕ, List, Ok, Err, ap, append_assoc, arith, drop, length, map, refl, subst, suc, sym, take, zero, inl, inr, ⊎_elim}
+use Rattle.std.proofs.Common.{◌≡◌, ◌∙◌, ◌∷◌, [], ◌++◌, ◌+◌, ◌<◌, ◌≤◌, ℕ, List, Ok, Err, ap, append_assoc, arith, drop, length, map, refl, subst, suc, sym, take, zero, inl, inr, ⊎_elim}
 use Rattle.std.specs.Prelude.{◌⊎◌, All, IfErr, IfOk, IsErrAnd, OnOk, Result, slice_index_or}
 use Rattle.std.proofs.lemmas.Bool.{cases_lt}
 use Rattle.std.proofs.lemmas.Grind.{common_steps}
@@ -18,16 +18,17 @@ use Rattle.dstm_model.specs.declared.value.Val.{Val}
 use Rattle.dstm_engine.specs.Tables as dstm
 use Rattle.dstm_tl2_engine.specs.Tables as tl2
 use Rattle.dstm_tables.specs.Engines.{WorksBy}
-use Rattle.dstm_tables.specs.Founders.{Enrols, founded, made_of}
+use Rattle.dstm_tables.specs.Founders.{Enrols, Retires, founded, made_of}
 use Rattle.dstm_tables.specs.declared.engine.Engine.{Engine}
 use Rattle.dstm_tables.specs.declared.founding.Founder.{Founder}
 use Rattle.dstm_tables.specs.declared.founding.Founder.TheVariants as founder
 use Rattle.dstm_tables.specs.declared.tables.Caller.{Caller}
 use Rattle.dstm_tables.specs.declared.tables.Caller.TheVariants as caller
 use Rattle.dstm_tables.specs.declared.tables.Table.{Table}
+use Rattle.dstm_tables.specs.declared.tables.Table.TheVariants as table
 use Rattle.dstm_cells.specs.Attempts.{CouldNotRead}
 use Rattle.dstm_cells.specs.Cells.{Founds, ReadsAll, Takes}
-use Rattle.dstm_cells.specs.Runs.{AnswerEach, End, EndsSo, FailsByFirst, FailsFor, HaveAnswered, IsFirst, IsFirstOf, LeavesBy, OnItsTable, Ran, RanOn, WasCalled, WasUnread}
+use Rattle.dstm_cells.specs.Runs.{AnswerEach, End, EndsSo, FailsByFirst, FailsFor, GivesOutEach, HaveAnswered, InTurn, IsFirst, IsFirstOf, LeavesBy, OnItsTable, RanOn, TakesBackEach, WasCalled, WasUnread, caller_at}
 
 -- a vector that was lent as a slice has what was left there, in the same number
 pub lent_back : {X : Type 0} {n count : ℕ} {new whole : List X} (old : List X) → length old ≡ count →
@@ -39,6 +40,11 @@ lent_back {n = n} {new = new} {whole = whole} old size is all same =
     written_back : {X : Type 0} (n : ℕ) (new old : List X) → n ≡ length old → length new ≡ length old →
         take n (new ++ drop (length new) old) ≡ new
     written_back n new old whole same = grind (arith, common_steps)
+
+-- the first one of some
+pub some_of : {A : Type 0} (xs : List A) → 1 ≤ length xs → A
+some_of [] some = absurd (omega arith)
+some_of (x ∷ xs) some = x
 
 -- what holds of each element, with its number, holds with one more behind
 pub each_push : {A : Type 0} (P : ℕ → A → Type 0) (xs : List A) (x : A) →
@@ -107,7 +113,7 @@ module _ {L : Type 0} {ghosts : Ghosts L} (seats : List (Seat L ghosts)) where
 abbrev well : {T : Type 0} → T → End T
 well answer = Ok answer
 
-at_length : {A : Type 0} (before rest : List A) (item other : A) → slice_index_or (before ++ item ∷ rest) (length before) other ≡ item
+pub at_length : {A : Type 0} (before rest : List A) (item other : A) → slice_index_or (before ++ item ∷ rest) (length before) other ≡ item
 at_length before rest item other =
     let more = length_push before item in
     ap (λ items. slice_index_or items (length before) other) (sym (append_assoc before (item ∷ []) rest))
@@ -237,10 +243,6 @@ module _ {L : Type 0} (holds : L → List Val → Type 0) {engine : Engine} {rul
     ends = subst (λ new. ended new g) founds.founder ends;
   }
 
-  -- what a run has left whose values were read by a last caller
-  pub has_left : {after : List Val} → ReadsAll holds caller after → Ran holds engine rule before after
-  has_left reads = on_its_table (record { caller = caller; enrols = enrols; reads = reads })
-
   -- what has become of a run whose last caller could not read them
   pub was_unread : {after : Caller L} → CouldNotRead holds 64 caller after → WasUnread holds engine rule before
   was_unread {after} unread = on_its_table (record { caller = caller; enrols = enrols; after = after; unread = unread })
@@ -290,3 +292,81 @@ module _ {L F T : Type 0} {ghosts : Ghosts L} (holds : L → List Val → Type 0
     left = ran.left;
     takes = ran.takes;
   }
+
+-- ---- callers that are given out and taken back in turn
+
+-- a founder that has taken a caller back has made as many
+one_back : {L : Type 0} (holds : L → List Val → Type 0) (f g : Founder L) (k : Caller L) → Retires holds f g k → made_of g ≡ made_of f
+one_back holds (founder.Dstm f) (founder.Dstm g) (caller.Dstm k) retires = ap (λ (f : dstm.Founding _). f.made) retires.founder
+one_back holds (founder.Tl2 f) (founder.Tl2 g) (caller.Tl2 k) retires = ap (λ (f : tl2.TlFounding _). f.made) retires.founder
+one_back holds (founder.Dstm f) (founder.Dstm g) (caller.Tl2 k) retires = absurd retires
+one_back holds (founder.Tl2 f) (founder.Tl2 g) (caller.Dstm k) retires = absurd retires
+one_back holds (founder.Dstm f) (founder.Tl2 g) k retires = absurd retires
+one_back holds (founder.Tl2 f) (founder.Dstm g) k retires = absurd retires
+
+-- a new one has made none
+pub founded_none : {L : Type 0} (t : Table L) → made_of (founded t) ≡ 0
+founded_none (table.Dstm h) = refl
+founded_none (table.Tl2 h) = refl
+
+module _ {L : Type 0} (holds : L → List Val → Type 0) where
+  pub made_each : (count : ℕ) (f g : Founder L) (callers : ℕ → Caller L) → GivesOutEach holds count f callers g →
+      made_of g ≡ made_of f + count
+  made_each zero f g callers is =
+      let same : made_of g ≡ made_of f = ap (λ (m : Founder L). made_of m) is in omega (arith, same)
+  made_each (suc count) f g callers (m, before, one) =
+      let some = made_each count f m callers before in
+      let more = one_made holds m g count (callers count) one in
+      omega (arith, some, more)
+
+  pub made_back : (count : ℕ) (f g : Founder L) (callers : ℕ → Caller L) → TakesBackEach holds count f callers g →
+      made_of g ≡ made_of f
+  made_back zero f g callers is = ap (λ (m : Founder L). made_of m) is
+  made_back (suc count) f g callers (m, before, one) =
+      one_back holds m g (callers count) one ∙ made_back count f m callers before
+
+module _ {L : Type 0} (step : Founder L → Founder L → ℕ → Caller L → Type 0) where
+  -- the callers below the count tell
+  in_turn_by : (count : ℕ) (f g : Founder L) (some others : ℕ → Caller L) → ((number : ℕ) → number < count → some number ≡ others number) →
+      InTurn step count f some g → InTurn step count f others g
+  in_turn_by zero f g some others same is = is
+  in_turn_by (suc count) f g some others same (m, before, one) = (
+    m,
+    in_turn_by count f m some others (λ number below. same number (omega (arith, below))) before,
+    subst (step m g count) (same count (omega arith)) one,
+  )
+
+  -- one more
+  pub in_turn_next : (count next : ℕ) (f m g : Founder L) (callers : ℕ → Caller L) → InTurn step count f callers m →
+      step m g count (callers count) → next ≡ count + 1 → InTurn step next f callers g
+  in_turn_next count next f m g callers before one is =
+      let more : InTurn step (suc count) f callers g = (m, before, one) in
+      let same : suc count ≡ next = omega (arith, is) in
+      subst (λ n. InTurn step n f callers g) same more
+
+  module _ {ghosts : Ghosts L} (seats : List (Seat L ghosts)) (seat other : Seat L ghosts) where
+    -- the next one of the callers of seats
+    pub in_turn_push : (f m g : Founder L) → InTurn step (length seats) f (caller_at seats other) m →
+        step m g (length seats) seat.me.tx.attempts.caller →
+        InTurn step (length (seats ++ seat ∷ [])) f (caller_at (seats ++ seat ∷ []) other) g
+    in_turn_push f m g before one =
+        let all = seats ++ seat ∷ [] in
+        in_turn_next (length seats) (length all) f m g (caller_at all other)
+        (in_turn_by (length seats) f m (caller_at seats other) (caller_at all other)
+        (λ number below. ap (λ (s : Seat L ghosts). s.me.tx.attempts.caller) (sym (get_or-append seats (seat ∷ []) other number below)))
+        before)
+        (subst (step m g (length seats)) (ap (λ (s : Seat L ghosts). s.me.tx.attempts.caller) (sym (at_length seats [] seat other))) one)
+        (length_push seats seat)
+
+-- so many were given out by the founder of a new table
+pub given_out : {L : Type 0} (holds : L → List Val → Type 0) (t : Table L) {f : Founder L} {count threads : ℕ} (g : Founder L)
+    (callers : ℕ → Caller L) → f ≡ founded t → count ≡ threads → GivesOutEach holds count f callers g →
+    GivesOutEach holds threads (founded t) callers g
+given_out holds t {f} {count} {threads} g callers new same gives =
+    subst (λ n. GivesOutEach holds n (founded t) callers g) same (subst (λ m. GivesOutEach holds count m callers g) new gives)
+
+-- why the values were not taken, where the table had a caller left
+pub not_taken : (why : Failed) → (why ≡ failed.Threads) ⊎ (why ≡ failed.Memory) ⊎ (why ≡ failed.Unread) →
+    (why ≡ failed.Threads → ⊥) → (why ≡ failed.Memory) ⊎ (why ≡ failed.Unread)
+not_taken why (inl threads) none = absurd (none threads)
+not_taken why (inr rest) none = rest

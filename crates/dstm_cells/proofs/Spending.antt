@@ -1,11 +1,13 @@
 -- How many attempts a caller has and has begun.
 use Rattle.std.proofs.Common.{◌+◌, ◌∙◌, ◌≡◌, ap, arith, refl, sym, ℕ, List}
 use Rattle.dstm_model.specs.declared.value.Val.{Val}
+use Rattle.dstm_tl2_engine.specs.Callers.{TlCalled}
 use Rattle.dstm_tables.specs.Callers.{home_of}
 use Rattle.dstm_tables.specs.Tables.{attempts_there}
 use Rattle.dstm_tables.specs.declared.tables.Caller.{Caller}
 use Rattle.dstm_tables.specs.declared.tables.Caller.TheVariants.{Dstm, Tl2}
-use Rattle.dstm_attempts.specs.Attempts.{AddsNothing, Begins, Keeps, attempts_of, begun, renewed}
+use Rattle.dstm_tables.specs.declared.tables.Table.TheVariants as table
+use Rattle.dstm_attempts.specs.Attempts.{AddsNothing, Begins, Keeps, TakesEffect, attempts_of, begun, renewed}
 use Rattle.dstm_attempts.proofs.UnderWay.{adds_nothing, begins_none, nothing_twice}
 
 module _ {L : Type 0} where
@@ -31,3 +33,11 @@ module _ {L : Type 0} where
         nothing_twice first began n (nothing_twice first k began so_far.0 begins.nothing) (adds_nothing began n same),
         omega (arith, so_far.1, begins.begun, none),
       )
+
+  module _ (holds : L → List Val → Type 0) where
+    -- an attempt that takes effect stays with its table
+    pub takes_home : (k n : Caller L) → TakesEffect holds k n → home_of n ≡ home_of k
+    takes_home (Dstm k) (Dstm n) taken = ap (λ h. table.Dstm h) taken.takes.home
+    takes_home (Tl2 k) (Tl2 n) taken = ap (λ (m : TlCalled L). table.Tl2 m.home) taken.takes.kept
+    takes_home (Dstm k) (Tl2 n) taken = absurd taken.takes
+    takes_home (Tl2 k) (Dstm n) taken = absurd taken.takes

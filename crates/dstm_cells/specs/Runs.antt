@@ -1,12 +1,12 @@
 -- What the threads of a run have done, how it ended, and what it has left.
-use Rattle.std.specs.Prelude.{◌≡◌, ◌⊎◌, ℕ, ◌<◌, IfErr, List, Result, Ok, Err, length, map, slice_index_or}
+use Rattle.std.specs.Prelude.{◌≡◌, ◌⊎◌, ℕ, zero, suc, ◌<◌, IfErr, List, Result, Ok, Err, length, map, slice_index_or}
 use denote.Ref.{MutBor}
 use Rattle.std.specs.Fn.{Shared}
 use Rattle.dstm_model.specs.declared.value.Law.{Ghosts}
 use Rattle.dstm_model.specs.declared.value.Val.{Val}
 use Rattle.dstm_tables.specs.Callers.{home_of}
 use Rattle.dstm_tables.specs.Engines.{WorksBy}
-use Rattle.dstm_tables.specs.Founders.{Enrols, founded}
+use Rattle.dstm_tables.specs.Founders.{Enrols, Retires, founded}
 use Rattle.dstm_tables.specs.declared.engine.Engine.{Engine}
 use Rattle.dstm_tables.specs.declared.founding.Founder.{Founder}
 use Rattle.dstm_tables.specs.declared.tables.Caller.{Caller}
@@ -90,7 +90,44 @@ module _ {L : Type 0} where
   AreNumbered {ghosts} seats =
       (number : ℕ) (other : Seat L ghosts) → number < length seats → (slice_index_or seats number other).number ≡ number
 
+  -- the caller of the seat of this number
+  abbrev pub caller_at : {ghosts : Ghosts L} → List (Seat L ghosts) → (other : Seat L ghosts) → ℕ → Caller L
+  caller_at seats other number = (slice_index_or seats number other).me.tx.attempts.caller
+
+  -- each seat has a part of this table
+  abbrev pub AreAt : {ghosts : Ghosts L} → Table L → List (Seat L ghosts) → Type 0
+  AreAt {ghosts} table seats =
+      (number : ℕ) (other : Seat L ghosts) → number < length seats → home_of (caller_at seats other number) ≡ table
+
+  -- the work of this number was done on a seat: this is known of how it has ended and of what it has done, and the part that it has
+  -- left is of the same table
+  abbrev pub IsWorked : {ghosts : Ghosts L} → (ends : ℕ → End (Unit {0}) → Type 0) (does : ℕ → Caller L → Caller L → Type 0)
+      (number : ℕ) (old new : Seat L ghosts) → Type 0
+  IsWorked ends does number old new =
+      ends number new.ended × does number old.me.tx.attempts.caller new.me.tx.attempts.caller
+      × (home_of new.me.tx.attempts.caller ≡ home_of old.me.tx.attempts.caller)
+
+  -- callers of these numbers were given out or taken back, one after the other, from the first founder to the last
+  abbrev pub InTurn : (Founder L → Founder L → ℕ → Caller L → Type 0) → (count : ℕ) → Founder L → (ℕ → Caller L) → Founder L → Type 0
+  InTurn step zero f callers g = g ≡ f
+  InTurn step (suc count) f callers g = (m : Founder L) × InTurn step count f callers m × step m g count (callers count)
+
   module _ (holds : L → List Val → Type 0) where
+    -- so many callers were given out, each with its number as the seed
+    abbrev pub GivesOutEach : (count : ℕ) → Founder L → (ℕ → Caller L) → Founder L → Type 0
+    GivesOutEach = InTurn (Enrols holds)
+
+    -- so many callers were taken back
+    abbrev pub TakesBackEach : (count : ℕ) → Founder L → (ℕ → Caller L) → Founder L → Type 0
+    TakesBackEach = InTurn (λ f g number k. Retires holds f g k)
+
+    -- these are the callers of the seats, in their order
+    abbrev pub GivesOutSeats : {ghosts : Ghosts L} → Founder L → List (Seat L ghosts) → Founder L → Type 0
+    GivesOutSeats {ghosts} f seats g = (other : Seat L ghosts) → GivesOutEach (length seats) f (caller_at seats other) g
+
+    abbrev pub TakesBackSeats : {ghosts : Ghosts L} → Founder L → List (Seat L ghosts) → Founder L → Type 0
+    TakesBackSeats {ghosts} f seats g = (other : Seat L ghosts) → TakesBackEach (length seats) f (caller_at seats other) g
+
     -- a new caller of the table, with this seed
     pub record IsNew (table : Table L) (seed : ℕ) (k : Caller L) : Type 0 where
       pub home : home_of k ≡ table
@@ -111,10 +148,23 @@ module _ {L : Type 0} where
       pub left : Founder L
       pub ends : ended (founded table) left
 
-    -- WHAT A RUN HAS LEFT: these values, that the objects of its table had together at the place of a last transaction;
-    -- the table was made of the values before, and works by this engine
-    abbrev pub Ran : Engine → L → (before after : List Val) → Type 0
-    Ran engine rule before after = OnItsTable engine rule before (λ new left. Takes holds new left after)
+    -- A RUN, STEP BY STEP, on one table, which was made of these values and works by this engine: a part was given out for each
+    -- number, with it as the seed; the work of each number was done once, by its part; all parts were taken back as the work has
+    -- left them; and then this came of the founder
+    pub record RanInTurn (engine : Engine) (rule : L) (before : List Val) (threads : ℕ) (does : ℕ → Caller L → Caller L → Type 0)
+        (ended : Founder L → Founder L → Type 0) : Type 0 where
+      pub table : Table L
+      pub starts : Starts rule before table
+      pub works : WorksBy engine table
+      pub began : ℕ → Caller L
+      pub out : Founder L
+      pub gives : GivesOutEach threads (founded table) began out
+      pub left : ℕ → Caller L
+      pub done : (number : ℕ) → number < threads → does number (began number) (left number)
+      pub back : Founder L
+      pub takes_back : TakesBackEach threads out left back
+      pub last : Founder L
+      pub ends : ended back last
 
     -- A RUN WAS UNREAD: a last caller of its table, which was made of the values before, could not read all objects
     abbrev pub WasUnread : Engine → L → (before : List Val) → Type 0

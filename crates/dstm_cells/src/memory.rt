@@ -2,7 +2,7 @@
 ghost use Rattle.std.specs.Prelude.{◌≡◌, ◌⊎◌, ◌↔◌, ◌+◌, ◌<◌, ◌≤◌, ℕ, [], length, slice_index_or, vec_capacity, All, Ok, Err, IfErr, IfOk, OnOk};
 ghost use Rattle.dstm_cells.specs.Attempts.{CouldNotRead};
 ghost use Rattle.dstm_cells.specs.Cells.{Adds, AddsAll, AreNamed, Founds, IsFor, LeavesUnread, ReadsAll, Takes};
-ghost use Rattle.dstm_cells.specs.Runs.{AnswerEach, AreNumbered, CalledFor, FailsByFirst, FailsFor, HaveAnswered, HaveNew, IsFirst, IsFirstOf, LeavesBy, Ran, RanOn, WasCalled, WasUnread};
+ghost use Rattle.dstm_cells.specs.Runs.{AnswerEach, AreAt, AreNumbered, CalledFor, FailsByFirst, FailsFor, GivesOutSeats, HaveAnswered, HaveNew, IsFirst, IsFirstOf, IsWorked, LeavesBy, RanInTurn, RanOn, TakesBackSeats, WasCalled, WasUnread};
 ghost use Rattle.dstm_cells.specs.declared.error.Failed.TheVariants as failed;
 ghost use Rattle.dstm_model.specs.Map.{state_after, value_at};
 ghost use Rattle.dstm_tables.specs.Callers.{home_of};
@@ -248,6 +248,8 @@ impl<L: Law + Copy> Memory<L> {
         requires room { made_of founder.old + count ≤ callers_there table.now }
         ensures count { IfOk result (λ seats. length seats.items ≡ count) }
         ensures new { IfOk result (λ seats. HaveNew L.holds table.now seats.items) }
+        ensures table { OnOk result (home_there founder.new ≡ table.now) }
+        ensures gives { IfOk result (λ seats. GivesOutSeats L.holds founder.old seats.items founder.new) }
         ensures numbered { IfOk result (λ seats. AreNumbered seats.items) }
         ensures fails { IfErr result (λ why. why ≡ failed.Memory) }
     {
@@ -260,6 +262,19 @@ impl<L: Law + Copy> Memory<L> {
             })?;
         }
         Ok(seats)
+    }
+
+    // Takes the parts of all seats back.
+    fn retire_all(&self, table: &Table<L>, founder: &mut Founder<L>, seats: Vec<Seat<'_, L>>)
+        requires table { home_there founder.old ≡ table.now }
+        requires parts { AreAt table.now seats.items }
+        ensures table { home_there founder.new ≡ table.now }
+        ensures takes { TakesBackSeats L.holds founder.old seats.entry.items founder.new }
+    {
+        for seat in seats {
+            let Seat { me, .. } = seat;
+            self.retire(table, founder, me);
+        }
     }
 }
 
@@ -281,22 +296,24 @@ impl<L: Law + Copy + Sync> Memory<L> {
         ensures refused { (threads ≡ 0) ⊎ (63 < threads) → (result ≡ Err failed.Threads) × (self.new ≡ self.old) }
         ensures ended { OnOk result ((number : ℕ) → number < threads → W.ends work.now number (Ok tt)) }
         ensures fails { IfErr result (FailsFor (W.ends work.now)
-            (WasUnread L.holds self.old.engine self.old.law self.old.values.items) threads) }
-        ensures left { LeavesBy (Ran L.holds self.old.engine self.old.law self.old.values.items self.new.values.items) (self.new ≡ self.old) result }
+            (RanInTurn L.holds self.old.engine self.old.law self.old.values.items threads (W.does work.now) (LeavesUnread L.holds)) threads) }
+        ensures left { LeavesBy (RanInTurn L.holds self.old.engine self.old.law self.old.values.items threads (W.does work.now)
+            (λ back last. Takes L.holds back last self.new.values.items)) (self.new ≡ self.old) result }
     {
         let (table, mut founder) = self.found(threads)?;
-        let mut last = self.part(&table, &mut founder, 0)?;
         let mut seats = self.seats(&table, &mut founder, threads)?;
         for_each_mut(
             rt,
             &mut seats,
             threads as usize,
             &|number, seat: &mut Seat<'_, L>|
-                ensures { W.ends work.entry.now number seat.exit.now.ended }
+                ensures { IsWorked (W.ends work.entry.now) (W.does work.entry.now) number seat.entry.now seat.exit.now }
             { seat.ended = work.work(&mut seat.me, number) },
         );
-        self.take_by(&mut last)?;
-        how_all_ended(&seats)
+        let ended = how_all_ended(&seats);
+        self.retire_all(&table, &mut founder, seats);
+        self.take(&table, &mut founder)?;
+        ended
     }
 }
 

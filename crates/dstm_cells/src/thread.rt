@@ -3,6 +3,7 @@ ghost use Rattle.std.specs.Prelude.{◌≡◌, IfErr, IfOk};
 ghost use Rattle.dstm_attempts.specs.Attempts.{IsQuit};
 ghost use Rattle.dstm_cells.specs.Closures.{GaveUpFor, IsLawful, KeepsEach, KeepsPatience, TookEffect};
 ghost use Rattle.dstm_cells.specs.UnderWay.{AddsNothing};
+ghost use Rattle.dstm_tables.specs.Callers.{home_of};
 
 use crate::error::{GaveUp, Stop};
 use crate::transaction::Transaction;
@@ -36,6 +37,7 @@ impl<X: Transaction> Part<X> {
             IfErr result (λ _. AddsNothing (X.caller self.old.tx) (X.caller self.new.tx)) }
         ensures why { KeepsEach X.caller F.FnMut →
             IfErr result (GaveUpFor X.caller F.FnMut X.Rule.holds X.patience (X.caller self.old.tx) f (X.caller self.new.tx)) }
+        ensures home { KeepsEach X.caller F.FnMut → home_of (X.caller self.new.tx) ≡ home_of (X.caller self.old.tx) }
         ensures quit { IsQuit (X.caller self.old.tx) → IsQuit (X.caller self.new.tx) }
         ensures patience { KeepsPatience X.patience F.FnMut → X.patience self.new.tx ≡ X.patience self.old.tx }
     {

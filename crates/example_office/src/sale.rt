@@ -50,6 +50,8 @@ pub struct Desks {
 impl Work<NoneLost> for Desks {
     ghost ends = { λ desks number ended. Unit };
 
+    ghost does = { λ desks number began left. Unit };
+
     /// Sells tickets at a desk until none is left.
     fn work(&self, me: &mut Me<'_, NoneLost>, number: usize) -> Result<(), GaveUp> {
         let desk = if number == 0 { self.east } else { self.west };

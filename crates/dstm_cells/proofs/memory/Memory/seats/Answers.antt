@@ -1,11 +1,11 @@
-use Rattle.std.proofs.Common.{◌≡◌, ◌∙◌, Err, Ok, ap, arith, rules, subst, sym, ⊎_elim}
-use Rattle.dstm_tables.specs.Founders.{made_of}
+use Rattle.std.proofs.Common.{◌≡◌, ◌∙◌, Err, List, Ok, ap, arith, length, rules, subst, sym, ⊎_elim}
+use Rattle.dstm_tables.specs.Founders.{Enrols, made_of}
 use Rattle.dstm_tables.specs.Tables.{callers_there}
 use Rattle.dstm_cells.specs.declared.error.Failed.TheVariants as failed
 use Rattle.dstm_cells.specs.declared.memory.Seat.{Seat}
-use Rattle.dstm_cells.specs.Runs.{AreNumbered, HaveNew, IsNew}
+use Rattle.dstm_cells.specs.Runs.{AreNumbered, GivesOutEach, HaveNew, IsNew, caller_at}
 use Rattle.dstm_cells.proofs.Calling.{is_err}
-use Rattle.dstm_cells.proofs.Running.{each_push, one_made}
+use Rattle.dstm_cells.proofs.Running.{each_push, in_turn_push, one_made}
 use Rattle.dstm_cells.proofs.memory.Memory.seats.Goals as goal
 
 pub returns-in_err-part-clause-fails : goal.returns-in_err-part-clause-fails
@@ -38,4 +38,11 @@ loop-seed-preserved g c =
           (subst (λ n. IsNew g.L.Law.holds table n c.in_ok-part.field-0.tx.attempts.caller) (c.from.ensures ∙ sym before.count) new));
       numbered = subst AreNumbered (sym c.in_ok-push.ensures.items)
           (each_push (λ n (seat : Seat _ _). seat.number ≡ n) c.loop-seed.seats.items seat before.numbered (sym before.count));
+      gives = λ other.
+          subst (λ (seats : List (Seat _ _)). GivesOutEach g.L.Law.holds (length seats) c.args.founder.now (caller_at seats other) c.part.new.founder)
+          (sym c.in_ok-push.ensures.items)
+          (in_turn_push (Enrols g.L.Law.holds) c.loop-seed.seats.items seat other c.args.founder.now c.loop-seed.founder c.part.new.founder
+          (before.gives other)
+          (subst (λ n. Enrols g.L.Law.holds c.loop-seed.founder c.part.new.founder n c.in_ok-part.field-0.tx.attempts.caller)
+          (c.from.ensures ∙ sym before.count) part.enrols));
     }

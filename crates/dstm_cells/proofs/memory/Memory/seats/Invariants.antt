@@ -1,6 +1,6 @@
 use Rattle.std.proofs.Common.{◌≡◌, ◌+◌, length}
 use Rattle.dstm_tables.specs.Founders.{home_there, made_of}
-use Rattle.dstm_cells.specs.Runs.{AreNumbered, HaveNew}
+use Rattle.dstm_cells.specs.Runs.{AreNumbered, GivesOutSeats, HaveNew}
 use Rattle.dstm_cells.proofs.memory.Memory.seats.Given as goal
 
 -- the founder stays the table's, and a seat with a new part was given out for each number so far
@@ -11,4 +11,5 @@ invariant-loop-seed g l = record {
   count : length l.seats.items ≡ l.seed;
   new : HaveNew g.L.Law.holds l.fn.table l.seats.items;
   numbered : AreNumbered l.seats.items;
+  gives : GivesOutSeats g.L.Law.holds l.fn.founder l.seats.items l.founder;
 }

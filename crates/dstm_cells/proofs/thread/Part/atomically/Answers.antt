@@ -1,16 +1,18 @@
 use Rattle.std.proofs.Common.{◌≡◌, ◌≤◌, ◌∙◌, ap, arith, inl, inr, of_calls, refl, subst, suc, sym, zero}
 use Rattle.std.specs.Fn.{CalledAtMut}
+use Rattle.dstm_tables.specs.Callers.{home_of}
 use Rattle.dstm_tables.specs.declared.tables.Caller.{Caller}
 use Rattle.dstm_attempts.specs.Attempts.{AddsNothing, IsQuit, attempt, attempts_of, begun}
 use Rattle.dstm_cells.specs.Attempts.{StaysFor}
-use Rattle.dstm_cells.specs.Closures.{TriesOn}
+use Rattle.dstm_cells.specs.Closures.{KeepsEach, TriesOn}
 use Rattle.dstm_cells.specs.declared.thread.Part.{Part}
 use Rattle.dstm_attempts.proofs.UnderWay.{adds_nothing, begins_none, lost_quit, nothing_twice, renewed_quit, spent_at, takes_quit}
 use Rattle.dstm_cells.proofs.Calling.{called_at, called_from, if_err, is_err}
-use Rattle.dstm_cells.proofs.Spending.{renewed_nothing, same_attempts}
+use Rattle.dstm_cells.proofs.Spending.{renewed_nothing, same_attempts, takes_home}
 use Rattle.dstm_cells.proofs.Waiting.{kept_nothing, stop_nothing}
+use Rattle.dstm_cells.proofs.thread.Part.atomically.Given.{Over}
 use Rattle.dstm_cells.proofs.thread.Part.atomically.Goals as goal
-use Rattle.dstm_cells.proofs.thread.Part.atomically.Goals.{in-Ok+else-commit, in-Err+in_ok-leave-in-Err}
+use Rattle.dstm_cells.proofs.thread.Part.atomically.Goals.{After-f, in-Ok+else-commit, in-Err+in_ok-leave-in-Err}
 
 pub commit-requires : goal.commit-requires
 commit-requires g c =
@@ -107,6 +109,32 @@ returns-in_err-begin-clause-why g c keeps =
         spent = c.in_err-begin.ensures.spent.1;
       },
     ))
+
+-- an attempt has begun, and its closure was called on it
+called_home : (g : Over) (c : After-f g) → KeepsEach g.X.Transaction.caller g.F.FnMut →
+    home_of (g.X.Transaction.caller c.f.new.arg2) ≡ home_of (g.X.Transaction.caller c.args.self.now.tx)
+called_home g c keeps =
+    let caller = g.X.Transaction.caller in
+    let call = called_at g.F.FnMut c.loop-number.f c.f.new.self _ _ _ c.f.ensures in
+    (adds_nothing (caller c.begin.new.self) (caller c.f.new.arg2) (keeps _ _ _ _ _ call)).home ∙ c.begin.ensures.nothing.home
+    ∙ (c.loop-number.invariant.1 keeps).0.nothing.home
+
+pub returns-then-commit-clause-home : goal.returns-then-commit-clause-home
+returns-then-commit-clause-home g c keeps =
+    takes_home g.X.Rule.Law.holds _ _ (c.commit.ensures.takes c.if-commit.true)
+    ∙ called_home g (goal.at.returns-then-commit-clause-home g c).After-f keeps
+
+pub returns-in_err-leave-in-Err-clause-home : goal.returns-in_err-leave-in-Err-clause-home
+returns-in_err-leave-in-Err-clause-home g c keeps =
+    let caller = g.X.Transaction.caller in
+    (stop_nothing c.in-Err.stop.why (caller c.f.new.arg2) (caller c.leave.new.self) c.leave.ensures.stays).0.home
+    ∙ called_home g (goal.at.returns-in_err-leave-in-Err-clause-home g c).After-f keeps
+
+pub returns-in_err-begin-clause-home : goal.returns-in_err-begin-clause-home
+returns-in_err-begin-clause-home g c keeps = c.begin.ensures.nothing.home ∙ (c.loop-number.invariant.1 keeps).0.nothing.home
+
+pub returns-clause-home : goal.returns-clause-home
+returns-clause-home g c keeps = (c.loop-number.invariant.1 keeps).0.nothing.home
 
 pub returns-then-commit-clause-quit : goal.returns-then-commit-clause-quit
 returns-then-commit-clause-quit g c quit = takes_quit g.X.Rule.Law.holds _ _ (c.commit.ensures.takes c.if-commit.true)
