@@ -4,7 +4,7 @@ use Rattle.std.specs.Prelude.{Option, None, Some}
 use Rattle.dstm_model.specs.declared.value.Val.{Val}
 use Rattle.dstm_model.specs.Map.{value_at}
 use Rattle.dstm_structures.specs.Maps.{key_of, keys_in}
-use Rattle.dstm_structures.specs.Orders.{Trie, tip, fork, Below, Ends, EndsAll, Follows, FollowsAll, HoldsIn, IsEdge, IsNext, forks_in, is_above, left_in, level_in, link_in, link_to, low_of, right_in, root_in}
+use Rattle.dstm_structures.specs.Orders.{Trie, tip, fork, Below, Ends, Finds, FindsAll, Follows, HoldsIn, IsEdge, IsNext, forks_in, is_above, left_in, level_in, link_in, link_to, low_of, right_in, root_in}
 use Rattle.dstm_structures.specs.Tips.{TellsFork}
 use Rattle.dstm_structures.specs.declared.cells.Rows.{Rows}
 use Rattle.dstm_structures.specs.declared.order.Link.{Link}
@@ -55,11 +55,15 @@ module _ (cells : Rows) where
         greater_held = held.6;
       }
 
-  -- ---- the search for the least or the greatest key
+  -- where nothing was set, a trie is still held
+  held-same : (before after : List Val) (t : Trie) → after ≡ before → HoldsIn first n before t → HoldsIn first n after t
+  held-same before after t same held = subst (λ (v : List Val). HoldsIn first n v t) (sym same) held
 
-  pub ends-nothing : (greatest : Bool) (link under : ℕ) (values : List Val) → Nothing ≡ link_in n link →
-      Ends cells greatest link under None values values
-  ends-nothing greatest link under values is = record {
+  -- ---- the search below a link
+
+  pub finds-nothing : (finds : Option ℕ → Trie → Type 0) (link under : ℕ) (values : List Val) → Nothing ≡ link_in n link →
+      Finds cells finds link under None values values
+  finds-nothing finds link under values is = record {
     is = λ bits t at held below. absurd (never t (led link Nothing values t is at held));
     nowhere = λ zero. refl;
     same = refl;
@@ -93,18 +97,28 @@ module _ (cells : Rows) where
         fork-is at level prefix left right before t (led link (Fork at) before t to link_is held) held f
 
     -- no trie has forks above the level below which its forks are
-    too-high : (before : List Val) → TellsFork at level prefix left right (forks_in first n before) → under ≤ level → (bits : ℕ) (t : Trie) →
-        link ≡ link_to t → HoldsIn first n before t → Below under bits t → ⊥
-    too-high before f high bits t link_is held below =
-        let k = forked before f t link_is held in
-        let b = subst (Below under bits) k.is below in
-        omega (arith, b.0, high)
-
-    pub ends-stopped : (greatest : Bool) (before after : List Val) → under ≤ level →
+    pub finds-stopped : (finds : Option ℕ → Trie → Type 0) (before after : List Val) → under ≤ level →
         TellsFork at level prefix left right (forks_in first n before) → after ≡ before →
-        Ends cells greatest link under None before after
-    ends-stopped greatest before after high f same = record {
-      is = λ bits t link_is held below. absurd (too-high before f high bits t link_is held below);
+        Finds cells finds link under None before after
+    finds-stopped finds before after high f same = record {
+      is = λ bits t link_is held below.
+          let b = subst (Below under bits) (forked before f t link_is held).is below in
+          absurd (omega (arith, b.0, high));
+      nowhere = λ zero. absurd (somewhere zero);
+      same = same;
+    }
+
+    -- what is so by the two tries below the fork
+    fork-finds : (finds : Option ℕ → Trie → Type 0) (answer : Option ℕ) (before after : List Val) →
+        TellsFork at level prefix left right (forks_in first n before) → after ≡ before →
+        ((bits : ℕ) (l r : Trie) → Below under bits (fork at level prefix l r) → left ≡ link_to l → right ≡ link_to r →
+        HoldsIn first n before l → HoldsIn first n before r → finds answer (fork at level prefix l r)) →
+        Finds cells finds link under answer before after
+    fork-finds finds answer before after f same by = record {
+      is = λ bits t link_is held below.
+          let k = forked before f t link_is held in
+          subst (finds answer) (sym k.is)
+          (by bits k.lesser k.greater (subst (Below under bits) k.is below) k.left_is k.right_is k.lesser_held k.greater_held);
       nowhere = λ zero. absurd (somewhere zero);
       same = same;
     }
@@ -112,117 +126,53 @@ module _ (cells : Rows) where
     pub ends-fork : (greatest : Bool) (side : ℕ) (answer : Option ℕ) (before mid after : List Val) →
         side ≡ cond greatest right left → TellsFork at level prefix left right (forks_in first n before) → mid ≡ before →
         Ends cells greatest side level answer mid after → Ends cells greatest link under answer before after
-    ends-fork false side answer before mid after side_is f same e = record {
-      is = λ bits t link_is held below.
-          let k = forked before f t link_is held in
-          let b = subst (Below under bits) k.is below in
-          subst (IsEdge false answer) (sym k.is)
-          (edge-left under bits at level prefix k.lesser k.greater b answer
-          (e.is (2 * prefix) k.lesser (side_is ∙ k.left_is)
-          (subst (λ (v : List Val). HoldsIn first n v k.lesser) (sym same) k.lesser_held) b.2));
-      nowhere = λ zero. absurd (somewhere zero);
-      same = e.same ∙ same;
-    }
-    ends-fork true side answer before mid after side_is f same e = record {
-      is = λ bits t link_is held below.
-          let k = forked before f t link_is held in
-          let b = subst (Below under bits) k.is below in
-          subst (IsEdge true answer) (sym k.is)
-          (edge-right under bits at level prefix k.lesser k.greater b answer
-          (e.is (2 * prefix + 1) k.greater (side_is ∙ k.right_is)
-          (subst (λ (v : List Val). HoldsIn first n v k.greater) (sym same) k.greater_held) b.3));
-      nowhere = λ zero. absurd (somewhere zero);
-      same = e.same ∙ same;
-    }
+    ends-fork false side answer before mid after side_is f same e =
+        fork-finds (IsEdge false) answer before after f (e.same ∙ same)
+        (λ bits l r b left_is right_is l_held r_held. edge-left under bits at level prefix l r b answer
+        (e.is (2 * prefix) l (side_is ∙ left_is) (held-same before mid l same l_held) b.2))
+    ends-fork true side answer before mid after side_is f same e =
+        fork-finds (IsEdge true) answer before after f (e.same ∙ same)
+        (λ bits l r b left_is right_is l_held r_held. edge-right under bits at level prefix l r b answer
+        (e.is (2 * prefix + 1) r (side_is ∙ right_is) (held-same before mid r same r_held) b.3))
 
     -- ---- the search for the least key above another one
 
     module _ (key part : ℕ) (part_is : part ≡ key / 2 ^ level) (before mid : List Val)
         (f : TellsFork at level prefix left right (forks_in first n before)) (same : mid ≡ before) where
-      pub follows-stopped : under ≤ level → Follows cells key link under None before mid
-      follows-stopped high = record {
-        is = λ bits t link_is held below. absurd (too-high before f high bits t link_is held below);
-        nowhere = λ zero. absurd (somewhere zero);
-        same = same;
-      }
-
       pub follows-all : (answer : Option ℕ) (after : List Val) → part / 2 < prefix →
           Ends cells false left level answer mid after → Follows cells key link under answer before after
-      follows-all answer after less e = record {
-        is = λ bits t link_is held below.
-            let k = forked before f t link_is held in
-            let b = subst (Below under bits) k.is below in
-            subst (IsNext key answer) (sym k.is)
-            (next-all under bits at level prefix k.lesser k.greater b key part part_is answer less
-            (e.is (2 * prefix) k.lesser k.left_is
-            (subst (λ (v : List Val). HoldsIn first n v k.lesser) (sym same) k.lesser_held) b.2));
-        nowhere = λ zero. absurd (somewhere zero);
-        same = e.same ∙ same;
-      }
+      follows-all answer after less e =
+          fork-finds (IsNext key) answer before after f (e.same ∙ same)
+          (λ bits l r b left_is right_is l_held r_held. next-all under bits at level prefix l r b key part part_is answer less
+          (e.is (2 * prefix) l left_is (held-same before mid l same l_held) b.2))
 
       pub follows-none : prefix < part / 2 → Follows cells key link under None before mid
-      follows-none more = record {
-        is = λ bits t link_is held below.
-            let k = forked before f t link_is held in
-            let b = subst (Below under bits) k.is below in
-            subst (IsNext key None) (sym k.is)
-            (next-none under bits at level prefix k.lesser k.greater b key part part_is more);
-        nowhere = λ zero. absurd (somewhere zero);
-        same = same;
-      }
+      follows-none more =
+          fork-finds (IsNext key) None before mid f same
+          (λ bits l r b left_is right_is l_held r_held. next-none under bits at level prefix l r b key part part_is more)
 
       pub follows-right : (answer : Option ℕ) (after : List Val) → part ≡ 2 * prefix + 1 →
           Follows cells key right level answer mid after → Follows cells key link under answer before after
-      follows-right answer after is e = record {
-        is = λ bits t link_is held below.
-            let k = forked before f t link_is held in
-            let b = subst (Below under bits) k.is below in
-            subst (IsNext key answer) (sym k.is)
-            (next-right under bits at level prefix k.lesser k.greater b key part part_is answer is
-            (e.is (2 * prefix + 1) k.greater k.right_is
-            (subst (λ (v : List Val). HoldsIn first n v k.greater) (sym same) k.greater_held) b.3));
-        nowhere = λ zero. absurd (somewhere zero);
-        same = e.same ∙ same;
-      }
+      follows-right answer after is e =
+          fork-finds (IsNext key) answer before after f (e.same ∙ same)
+          (λ bits l r b left_is right_is l_held r_held. next-right under bits at level prefix l r b key part part_is answer is
+          (e.is (2 * prefix + 1) r right_is (held-same before mid r same r_held) b.3))
 
       pub follows-left : (found : ℕ) (after : List Val) → part ≡ 2 * prefix →
           Follows cells key left level (Some found) mid after → Follows cells key link under (Some found) before after
-      follows-left found after is e = record {
-        is = λ bits t link_is held below.
-            let k = forked before f t link_is held in
-            let b = subst (Below under bits) k.is below in
-            subst (IsNext key (Some found)) (sym k.is)
-            (next-left under bits at level prefix k.lesser k.greater b key part part_is found is
-            (e.is (2 * prefix) k.lesser k.left_is
-            (subst (λ (v : List Val). HoldsIn first n v k.lesser) (sym same) k.lesser_held) b.2));
-        nowhere = λ zero. absurd (somewhere zero);
-        same = e.same ∙ same;
-      }
+      follows-left found after is e =
+          fork-finds (IsNext key) (Some found) before after f (e.same ∙ same)
+          (λ bits l r b left_is right_is l_held r_held. next-left under bits at level prefix l r b key part part_is found is
+          (e.is (2 * prefix) l left_is (held-same before mid l same l_held) b.2))
 
       pub follows-later : (answer : Option ℕ) (near after : List Val) → part ≡ 2 * prefix →
           Follows cells key left level None mid near → Ends cells false right level answer near after →
           Follows cells key link under answer before after
-      follows-later answer near after is e g = record {
-        is = λ bits t link_is held below.
-            let k = forked before f t link_is held in
-            let b = subst (Below under bits) k.is below in
-            subst (IsNext key answer) (sym k.is)
-            (next-later under bits at level prefix k.lesser k.greater b key part part_is answer is
-            (e.is (2 * prefix) k.lesser k.left_is
-            (subst (λ (v : List Val). HoldsIn first n v k.lesser) (sym same) k.lesser_held) b.2)
-            (g.is (2 * prefix + 1) k.greater k.right_is
-            (subst (λ (v : List Val). HoldsIn first n v k.greater) (sym (e.same ∙ same)) k.greater_held) b.3));
-        nowhere = λ zero. absurd (somewhere zero);
-        same = g.same ∙ e.same ∙ same;
-      }
-
-  pub follows-nothing : (key link under : ℕ) (values : List Val) → Nothing ≡ link_in n link →
-      Follows cells key link under None values values
-  follows-nothing key link under values is = record {
-    is = λ bits t at held below. absurd ((ends-nothing false link under values is).is bits t at held below);
-    nowhere = λ zero. refl;
-    same = refl;
-  }
+      follows-later answer near after is e g =
+          fork-finds (IsNext key) answer before after f (g.same ∙ e.same ∙ same)
+          (λ bits l r b left_is right_is l_held r_held. next-later under bits at level prefix l r b key part part_is answer is
+          (e.is (2 * prefix) l left_is (held-same before mid l same l_held) b.2)
+          (g.is (2 * prefix + 1) r right_is (held-same before near r (e.same ∙ same) r_held) b.3))
 
   module _ (key link under at o : ℕ) (held : Option ℕ) (before after : List Val) (to : Tip at ≡ link_in n link)
       (o_is : o ≡ first + n + at) (reads : Reads key_of o held before after) where
@@ -267,30 +217,14 @@ module _ (cells : Rows) where
 
   -- ---- the whole trie
 
-  root_read : (o link : ℕ) (before after : List Val) → o ≡ first + 3 * n → Reads low_of o link before after →
-      link ≡ root_in first n before
-  root_read o link before after o_is reads = reads.is ∙ ap (λ (x : ℕ). low_of (value_at before x)) o_is
-
-  pub ends-all : (greatest : Bool) (o link : ℕ) (answer : Option ℕ) (before mid after : List Val) → o ≡ first + 3 * n →
-      Reads low_of o link before mid → Ends cells greatest link 64 answer mid after →
-      EndsAll cells greatest answer before after
-  ends-all greatest o link answer before mid after o_is reads e =
-      let link_is : link ≡ root_in first n before = root_read o link before mid o_is reads in
-      record {
-        is = λ t by. e.is 0 t (link_is ∙ by.root)
-            (subst (λ (v : List Val). HoldsIn first n v t) (sym reads.same) by.held) by.split;
-        bare = λ none. e.nowhere (link_is ∙ none);
-        same = e.same ∙ reads.same;
-      }
-
-  pub follows-root : (key o link : ℕ) (answer : Option ℕ) (before mid after : List Val) → o ≡ first + 3 * n →
-      Reads low_of o link before mid → Follows cells key link 64 answer mid after →
-      FollowsAll cells key answer before after
-  follows-root key o link answer before mid after o_is reads e =
-      let link_is : link ≡ root_in first n before = root_read o link before mid o_is reads in
-      record {
-        is = λ t by. e.is 0 t (link_is ∙ by.root)
-            (subst (λ (v : List Val). HoldsIn first n v t) (sym reads.same) by.held) by.split;
-        bare = λ none. e.nowhere (link_is ∙ none);
-        same = e.same ∙ reads.same;
-      }
+  pub finds-all : (finds : Option ℕ → Trie → Type 0) (o link : ℕ) (answer : Option ℕ) (before mid after : List Val) →
+      o ≡ first + 3 * n → Reads low_of o link before mid → Finds cells finds link 64 answer mid after →
+      FindsAll cells finds answer before after
+  finds-all finds o link answer before mid after o_is reads e = record {
+    is = λ t by. e.is 0 t (link_is ∙ by.root) (held-same before mid t reads.same by.held) by.split;
+    bare = λ none. e.nowhere (link_is ∙ none);
+    same = e.same ∙ reads.same;
+  }
+    where
+      link_is : link ≡ root_in first n before
+      link_is = reads.is ∙ ap (λ (x : ℕ). low_of (value_at before x)) o_is

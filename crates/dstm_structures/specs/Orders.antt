@@ -140,29 +140,30 @@ IsEdge false (Some at) t = IsLeast at t
 IsEdge true (Some at) t = IsGreatest at t
 
 module _ (cells : Rows) where
-  -- the least place of a trie, or the greatest one, was looked for below a link, and nothing was set
-  pub record Ends (greatest : Bool) (link under : ℕ) (answer : Option ℕ) (before after : List Val) : Type 0 where
+  -- a place of which this holds was looked for below a link, and nothing was set
+  pub record Finds (holds : Option ℕ → Trie → Type 0) (link under : ℕ) (answer : Option ℕ) (before after : List Val) : Type 0 where
     pub is : (bits : ℕ) (t : Trie) → link ≡ link_to t → HoldsIn cells.first cells.capacity before t → Below under bits t →
-        IsEdge greatest answer t
+        holds answer t
     pub nowhere : link ≡ 0 → answer ≡ None
     pub same : after ≡ before
 
-  -- the place of the least key above this one was looked for below a link, and nothing was set
-  pub record Follows (key link under : ℕ) (answer : Option ℕ) (before after : List Val) : Type 0 where
-    pub is : (bits : ℕ) (t : Trie) → link ≡ link_to t → HoldsIn cells.first cells.capacity before t → Below under bits t →
-        IsNext key answer t
-    pub nowhere : link ≡ 0 → answer ≡ None
-    pub same : after ≡ before
-
-  -- where the cells are in order by a trie, its least place or its greatest one was found, and nothing was set; where they
-  -- hold none, no place
-  pub record EndsAll (greatest : Bool) (answer : Option ℕ) (before after : List Val) : Type 0 where
-    pub is : (t : Trie) → IsOrderedBy cells.first cells.capacity t before → IsEdge greatest answer t
+  -- it was looked for in the whole trie, where the cells are in order by one, and nothing was set; where they hold none, no
+  -- place was found
+  pub record FindsAll (holds : Option ℕ → Trie → Type 0) (answer : Option ℕ) (before after : List Val) : Type 0 where
+    pub is : (t : Trie) → IsOrderedBy cells.first cells.capacity t before → holds answer t
     pub bare : root_in cells.first cells.capacity before ≡ 0 → answer ≡ None
     pub same : after ≡ before
+
+  -- the least place of a trie, or the greatest one
+  abbrev pub Ends : (greatest : Bool) (link under : ℕ) → Option ℕ → List Val → List Val → Type 0
+  Ends greatest = Finds (IsEdge greatest)
+
+  abbrev pub EndsAll : (greatest : Bool) → Option ℕ → List Val → List Val → Type 0
+  EndsAll greatest = FindsAll (IsEdge greatest)
 
   -- the place of the least key above this one
-  pub record FollowsAll (key : ℕ) (answer : Option ℕ) (before after : List Val) : Type 0 where
-    pub is : (t : Trie) → IsOrderedBy cells.first cells.capacity t before → IsNext key answer t
-    pub bare : root_in cells.first cells.capacity before ≡ 0 → answer ≡ None
-    pub same : after ≡ before
+  abbrev pub Follows : (key link under : ℕ) → Option ℕ → List Val → List Val → Type 0
+  Follows key = Finds (IsNext key)
+
+  abbrev pub FollowsAll : (key : ℕ) → Option ℕ → List Val → List Val → Type 0
+  FollowsAll key = FindsAll (IsNext key)

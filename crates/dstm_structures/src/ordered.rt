@@ -226,11 +226,7 @@ impl<V: Word> OrderedMap<V> {
     }
 
     // The key of a place with its value, if it holds one.
-    pub(crate) fn entry<L: Law>(
-        self,
-        tx: &mut Tx<'_, L>,
-        place: Option<u32>,
-    ) -> Result<Option<(u64, V)>, Stop>
+    fn entry<L: Law>(self, tx: &mut Tx<'_, L>, place: Option<u32>) -> Result<Option<(u64, V)>, Stop>
         requires { IfSome place (λ at. at < self.map.cells.capacity) }
         ensures keeps { Keeps tx.old.attempts.caller tx.new.attempts.caller }
         ensures notes { Notes L.holds (noting tx.old) (noting tx.new) }

@@ -3,18 +3,18 @@ use Rattle.std.specs.Prelude.{None, Option, Some, false}
 use Rattle.dstm_cells.specs.Alternatives.{noting}
 use Rattle.dstm_structures.specs.Effects.{Does}
 use Rattle.dstm_structures.specs.Maps.{key_of}
-use Rattle.dstm_structures.specs.Orders.{Ends, Follows, order_end}
+use Rattle.dstm_structures.specs.Orders.{Ends, Follows, IsNext, order_end}
 use Rattle.dstm_structures.specs.Tips.{LooksFork}
 use Rattle.dstm_structures.proofs.Doing.{Reads, does-as, does-read, does-still, does-then, does-thrice}
 use Rattle.dstm_structures.proofs.Noting.{notes_thrice, notes_twice}
-use Rattle.dstm_structures.proofs.Ordering.{follows-all, follows-later, follows-left, follows-no-tip, follows-none, follows-nothing, follows-right, follows-stopped, follows-tip}
+use Rattle.dstm_structures.proofs.Ordering.{finds-nothing, finds-stopped, follows-all, follows-later, follows-left, follows-no-tip, follows-none, follows-right, follows-tip}
 use Rattle.dstm_structures.proofs.order.Order.+above.Goals as goal
 
 pub returns-in-Nothing-clause-follows : goal.returns-in-Nothing-clause-follows
 returns-in-Nothing-clause-follows g t c =
     does-still g.L.Law.holds (order_end c.args.self.cells)
     (Follows c.args.self.cells c.args.key c.args.link c.args.under None) c.args.tx.now.attempts.caller
-    (λ values. follows-nothing c.args.self.cells c.args.key c.args.link c.args.under values
+    (λ values. finds-nothing c.args.self.cells (IsNext c.args.key) c.args.link c.args.under values
     (sym c.in-Nothing.is ∙ c.link.ensures.is))
 
 pub returns-then-is_above-clause-follows : goal.returns-then-is_above-clause-follows
@@ -45,9 +45,9 @@ returns-then-fork-under-clause-follows g t c =
     does-as g.L.Law.holds (order_end c.args.self.cells) (LooksFork c.args.self.cells c.in-Fork.at fork)
     (Follows c.args.self.cells c.args.key c.args.link c.args.under None) c.args.tx.now.attempts.caller
     c.look_fork.new.tx.attempts.caller c.in_ok-fork-in-Fork.ensures.looks
-    (λ before after size looks. follows-stopped c.args.self.cells c.args.link c.args.under c.in-Fork.at fork.level
-    fork.prefix fork.left fork.right (sym c.in-Fork.is ∙ c.link.ensures.is) c.args.key (c.args.key / 2 ^ fork.level) refl
-    before after looks.tells looks.same (omega (arith, c.if-fork-under.true)))
+    (λ before after size looks. finds-stopped c.args.self.cells c.args.link c.args.under c.in-Fork.at fork.level
+    fork.prefix fork.left fork.right (sym c.in-Fork.is ∙ c.link.ensures.is) (IsNext c.args.key) before after
+    (omega (arith, c.if-fork-under.true)) looks.tells looks.same)
 
 pub returns-in_err-first-in-Fork-clause-notes : goal.returns-in_err-first-in-Fork-clause-notes
 returns-in_err-first-in-Fork-clause-notes g t c =

@@ -1,18 +1,18 @@
 use Rattle.std.proofs.Common.{◌∙◌, arith, sym}
 use Rattle.std.specs.Prelude.{None, Some}
 use Rattle.dstm_cells.specs.Alternatives.{noting}
-use Rattle.dstm_structures.specs.Orders.{Ends, order_end}
+use Rattle.dstm_structures.specs.Orders.{Ends, IsEdge, order_end}
 use Rattle.dstm_structures.specs.Tips.{LooksFork}
 use Rattle.dstm_structures.proofs.Doing.{does-as, does-still, does-then}
 use Rattle.dstm_structures.proofs.Noting.{notes_twice}
-use Rattle.dstm_structures.proofs.Ordering.{ends-fork, ends-nothing, ends-stopped, ends-tip}
+use Rattle.dstm_structures.proofs.Ordering.{ends-fork, ends-tip, finds-nothing, finds-stopped}
 use Rattle.dstm_structures.proofs.order.Order.+edge.Goals as goal
 
 pub returns-in-Nothing-clause-ends : goal.returns-in-Nothing-clause-ends
 returns-in-Nothing-clause-ends g t c =
     does-still g.L.Law.holds (order_end c.args.self.cells)
     (Ends c.args.self.cells c.args.greatest c.args.link c.args.under None) c.args.tx.now.attempts.caller
-    (λ values. ends-nothing c.args.self.cells c.args.greatest c.args.link c.args.under values
+    (λ values. finds-nothing c.args.self.cells (IsEdge c.args.greatest) c.args.link c.args.under values
     (sym c.in-Nothing.is ∙ c.link.ensures.is))
 
 pub returns-in-Tip-clause-ends : goal.returns-in-Tip-clause-ends
@@ -28,8 +28,8 @@ returns-then-fork-under-clause-ends g t c =
     does-as g.L.Law.holds (order_end c.args.self.cells) (LooksFork c.args.self.cells c.in-Fork.at fork)
     (Ends c.args.self.cells c.args.greatest c.args.link c.args.under None) c.args.tx.now.attempts.caller
     c.look_fork.new.tx.attempts.caller c.in_ok-fork-in-Fork.ensures.looks
-    (λ before after size looks. ends-stopped c.args.self.cells c.args.link c.args.under c.in-Fork.at fork.level fork.prefix
-    fork.left fork.right (sym c.in-Fork.is ∙ c.link.ensures.is) c.args.greatest before after
+    (λ before after size looks. finds-stopped c.args.self.cells c.args.link c.args.under c.in-Fork.at fork.level fork.prefix
+    fork.left fork.right (sym c.in-Fork.is ∙ c.link.ensures.is) (IsEdge c.args.greatest) before after
     (omega (arith, c.if-fork-under.true)) looks.tells looks.same)
 
 pub edge-requires : goal.edge-requires

@@ -1,8 +1,8 @@
 use Rattle.dstm_cells.specs.Alternatives.{noting}
-use Rattle.dstm_structures.specs.Orders.{Ends, EndsAll, low_of, order_end}
+use Rattle.dstm_structures.specs.Orders.{Ends, EndsAll, IsEdge, low_of, order_end}
 use Rattle.dstm_structures.proofs.Doing.{Reads, does-read, does-then}
 use Rattle.dstm_structures.proofs.Noting.{notes_twice}
-use Rattle.dstm_structures.proofs.Ordering.{ends-all}
+use Rattle.dstm_structures.proofs.Ordering.{finds-all}
 use Rattle.dstm_structures.proofs.order.Order.end.Goals as goal
 
 pub returns-in_err-place-clause-notes : goal.returns-in_err-place-clause-notes
@@ -24,5 +24,5 @@ returns-clause-ends g c =
     (does-read g.L.Law.holds (order_end c.args.self.cells) low_of c.args.tx.now.attempts.caller
     c.get.new.self.attempts.caller c.root_at.result.object c.in_ok-root.root c.in_ok-root.ensures.gets)
     c.in_ok-place.ensures.ends
-    (λ before mid after size. ends-all c.args.self.cells c.args.greatest c.root_at.result.object c.in_ok-root.root
+    (λ before mid after size. finds-all c.args.self.cells (IsEdge c.args.greatest) c.root_at.result.object c.in_ok-root.root
     c.in_ok-place.place before mid after c.root_at.ensures)

@@ -1,8 +1,8 @@
 use Rattle.dstm_cells.specs.Alternatives.{noting}
-use Rattle.dstm_structures.specs.Orders.{Follows, FollowsAll, low_of, order_end}
+use Rattle.dstm_structures.specs.Orders.{Follows, FollowsAll, IsNext, low_of, order_end}
 use Rattle.dstm_structures.proofs.Doing.{Reads, does-read, does-then}
 use Rattle.dstm_structures.proofs.Noting.{notes_twice}
-use Rattle.dstm_structures.proofs.Ordering.{follows-root}
+use Rattle.dstm_structures.proofs.Ordering.{finds-all}
 use Rattle.dstm_structures.proofs.order.Order.next.Goals as goal
 
 pub returns-in_err-place-clause-notes : goal.returns-in_err-place-clause-notes
@@ -24,5 +24,5 @@ returns-clause-follows g c =
     (does-read g.L.Law.holds (order_end c.args.self.cells) low_of c.args.tx.now.attempts.caller
     c.get.new.self.attempts.caller c.root_at.result.object c.in_ok-root.root c.in_ok-root.ensures.gets)
     c.in_ok-place.ensures.follows
-    (λ before mid after size. follows-root c.args.self.cells c.args.key c.root_at.result.object c.in_ok-root.root
+    (λ before mid after size. finds-all c.args.self.cells (IsNext c.args.key) c.root_at.result.object c.in_ok-root.root
     c.in_ok-place.place before mid after c.root_at.ensures)
