@@ -1,10 +1,13 @@
-//! `bench`: what transactions take, by the calls of the engines and as closures over cells. Without words it tells how to use
-//! it.
+//! `bench`: what transactions take, by the calls of the engines and as closures over cells and maps. Without words it tells
+//! how to use it.
 #![tactic(auto)]
 
 mod cells;
+mod draws;
 mod engine;
+mod map;
 mod scale;
+mod spans;
 mod words;
 
 use std::env;
@@ -20,12 +23,16 @@ fn main(rt: HostRuntime) -> anyhow::Result<()> {
             "scale" => scale::tell(&rt, alloc, by, load, threads)?,
             _ => false,
         },
+        [_, part, by, kind, looks, threads] => {
+            part.as_str() == "map" && map::tell(&rt, alloc, by, kind, looks, threads)?
+        }
         _ => false,
     };
     if !told {
         println!(rt; "usage: bench engine MANAGER")?;
         println!(rt; "       bench cells")?;
         println!(rt; "       bench cells tl2|MANAGER disjoint|one|bank|reads|nothing 1|2|4")?;
+        println!(rt; "       bench map tl2|MANAGER hash|ordered 90|98|100 1|2|4")?;
         println!(rt; "       bench scale tl2|MANAGER LOAD 1|2|4")?;
         println!(rt; "managers: polite karma polka greedy")?;
         println!(rt; "loads: readers256 readers4096 tree90 tree98 tree100 lists reserve own")?;

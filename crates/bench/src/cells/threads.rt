@@ -1,6 +1,8 @@
 // Transactions over cells on threads.
 ghost use Rattle.std.specs.Prelude.{◌<◌, ◌≤◌};
 
+use crate::draws::draw;
+use crate::spans::{since, whole};
 use dstm_cells::{Cell, Engine, GaveUp, Me, Memory};
 use dstm_model::AnyLaw;
 use std::alloc::Global;
@@ -60,43 +62,29 @@ pub fn time_threads<R: Threads + Clock + Sync>(
 {
     let mut memory = Memory::with_law(alloc, engine, AnyLaw);
     let cells = memory.cells(1_000_000u64, kind.cells())?;
-    let times = memory.cells(0u64, 2 * threads)?;
     let begun = Instant::now(rt)?;
     let count = kind.transactions() / threads;
-    memory.run(rt, threads, |me, number| {
+    let spans = memory.run_each(rt, threads, |me, number| {
         let first = since(rt, begun);
-        let mut seed = number as u64;
-        for _ in 0..count {
-            make(me, &cells, kind, (number % 4) as u32, &mut seed)?;
-        }
-        let last = since(rt, begun);
-        let place = number.wrapping_mul(2);
-        let (Some(start), Some(end)) = (times.get(place), times.get(place.wrapping_add(1))) else {
-            return Ok(());
-        };
-        me.atomically(|tx| {
-            tx.set(*start, first)?;
-            tx.set(*end, last)
-        })
+        make_all(me, &cells, kind, count, number)?;
+        Ok((first, since(rt, begun)))
     })?;
-    let mut first = u64::MAX;
-    let mut last: u64 = 0;
-    for (place, time) in times.iter().enumerate() {
-        if place % 2 == 0 {
-            first = first.min(memory.get(*time)?);
-        } else {
-            last = last.max(memory.get(*time)?);
-        }
-    }
-    let span = u32::try_from(last.saturating_sub(first)).unwrap_or(u32::MAX);
-    Ok(f64::from(span) / f64::from(kind.transactions()))
+    Ok(whole(&spans) / f64::from(kind.transactions()))
 }
 
-fn since<C: Clock>(clock: &C, begun: Instant) -> u64 {
-    match Instant::now(clock) {
-        Ok(now) => u64::try_from(now.duration_since(begun).as_nanos()).unwrap_or(u64::MAX),
-        Err(_) => 0,
+// Makes so many transactions.
+fn make_all(
+    me: &mut Me<'_>,
+    cells: &[Cell<u64>],
+    kind: Kind,
+    count: u32,
+    number: usize,
+) -> Result<(), GaveUp> {
+    let mut seed = number as u64;
+    for _ in 0..count {
+        make(me, cells, kind, (number % 4) as u32, &mut seed)?;
     }
+    Ok(())
 }
 
 // Makes a transaction.
@@ -161,15 +149,4 @@ fn pick(cells: &[Cell<u64>], place: u32) -> Result<Cell<u64>, GaveUp> {
         Some(cell) => Ok(*cell),
         None => Err(GaveUp::Foreign),
     }
-}
-
-// A random number below this one.
-fn draw(seed: &mut u64, below: u32) -> u32
-    requires some { 0 < below }
-    ensures { result < below }
-{
-    *seed = seed
-        .wrapping_mul(6_364_136_223_846_793_005)
-        .wrapping_add(1_442_695_040_888_963_407);
-    ((*seed >> 33) % u64::from(below)) as u32
 }

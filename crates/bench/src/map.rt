@@ -1,0 +1,153 @@
+// What transactions over a map take on threads.
+ghost use Rattle.std.specs.Prelude.{◌<◌};
+
+use crate::draws::draw;
+use crate::spans::{since, whole};
+use crate::words::{engine_of, threads_of};
+use dstm_cells::{GaveUp, Me, Memory, Stop, Tx};
+use dstm_model::AnyLaw;
+use dstm_structures::{HashMap, OrderedMap};
+use std::alloc::Global;
+use std::thread::Threads;
+use std::time::{Clock, Instant};
+
+// Keys are below this. The map has room for all of them, and in the beginning it has the even ones.
+const KEYS: u32 = 65_536;
+
+// In how many runs the map is filled, and in how many it is timed: by DSTM a thread has 65,536 attempts in a run.
+const FILLS: u32 = 4;
+
+const RUNS: u32 = 16;
+
+// The transactions that all threads of a run make together.
+const TRANSACTIONS: u32 = 60_000;
+
+#[derive(Clone, Copy)]
+enum Map {
+    Hash(HashMap<u64>),
+    Ordered(OrderedMap<u64>),
+}
+
+/// Tells the nanoseconds that a transaction on a map of this kind takes by this engine on so many threads, where so many of a
+/// hundred look a key up, and whether there are such an engine, kind and number.
+pub fn tell<R: Threads + Clock + Print + Sync>(
+    rt: &R,
+    alloc: Global,
+    by: &str,
+    kind: &str,
+    looks: &str,
+    threads: &str,
+) -> anyhow::Result<bool> {
+    let (Some(engine), Some(looks)) = (engine_of(by), looks_of(looks)) else {
+        return Ok(false);
+    };
+    let mut memory = Memory::with_law(alloc, engine, AnyLaw);
+    let map = match kind {
+        "hash" => Map::Hash(HashMap::new(&mut memory, KEYS)?),
+        "ordered" => Map::Ordered(OrderedMap::new(&mut memory, KEYS)?),
+        _ => return Ok(false),
+    };
+    let nanos = time(rt, memory, map, looks, threads_of(threads))?;
+    println!(rt; "{nanos:.1}")?;
+    Ok(true)
+}
+
+// How many transactions of a hundred look a key up.
+fn looks_of(word: &str) -> Option<u32> {
+    match word {
+        "90" => Some(90),
+        "98" => Some(98),
+        "100" => Some(100),
+        _ => None,
+    }
+}
+
+// The nanoseconds from the start of the first thread to the end of the last one, by the share of one transaction.
+fn time<R: Threads + Clock + Sync>(
+    rt: &R,
+    memory: Memory,
+    map: Map,
+    looks: u32,
+    threads: u32,
+) -> anyhow::Result<f64>
+    requires some { 0 < threads }
+{
+    let mut memory = memory;
+    for part in 0..FILLS {
+        memory.run(rt, 1, |me, _| fill(me, map, part))?;
+    }
+    let count = TRANSACTIONS / threads;
+    let mut nanos = 0.0;
+    for run in 0..RUNS {
+        let begun = Instant::now(rt)?;
+        let spans = memory.run_each(rt, threads, |me, number| {
+            let first = since(rt, begun);
+            make_all(me, map, looks, count, seed_of(run, number))?;
+            Ok((first, since(rt, begun)))
+        })?;
+        nanos += whole(&spans);
+    }
+    Ok(nanos / f64::from(RUNS * TRANSACTIONS))
+}
+
+// Puts a part of the even keys in.
+fn fill(me: &mut Me<'_>, map: Map, part: u32) -> Result<(), GaveUp> {
+    for number in 0..KEYS / 2 / FILLS {
+        let place = part.wrapping_mul(KEYS / 2 / FILLS).wrapping_add(number);
+        let key = u64::from(place.wrapping_mul(12_347) % (KEYS / 2) * 2);
+        me.atomically(|tx| put(tx, map, key))?;
+    }
+    Ok(())
+}
+
+// Where the random numbers of a thread begin.
+fn seed_of(run: u32, number: usize) -> u64 {
+    u64::from(run).wrapping_mul(64).wrapping_add(number as u64)
+}
+
+// Makes so many transactions.
+fn make_all(me: &mut Me<'_>, map: Map, looks: u32, count: u32, seed: u64) -> Result<(), GaveUp> {
+    let mut seed = seed;
+    for _ in 0..count {
+        let drawn = draw(&mut seed, 200 * KEYS);
+        me.atomically(|tx| make(tx, map, looks, drawn))?;
+    }
+    Ok(())
+}
+
+// A transaction that is drawn: it looks a key up, puts it in or takes it out.
+fn make(tx: &mut Tx<'_>, map: Map, looks: u32, drawn: u32) -> Result<(), Stop> {
+    let key = u64::from(drawn % KEYS);
+    let chance = drawn / KEYS;
+    if chance / 2 < looks {
+        get(tx, map, key)
+    } else if chance % 2 == 0 {
+        put(tx, map, key)
+    } else {
+        remove(tx, map, key)
+    }
+}
+
+fn get(tx: &mut Tx<'_>, map: Map, key: u64) -> Result<(), Stop> {
+    let _value = match map {
+        Map::Hash(map) => map.get(tx, key)?,
+        Map::Ordered(map) => map.get(tx, key)?,
+    };
+    Ok(())
+}
+
+fn put(tx: &mut Tx<'_>, map: Map, key: u64) -> Result<(), Stop> {
+    let _placed = match map {
+        Map::Hash(map) => map.put(tx, key, key)?,
+        Map::Ordered(map) => map.put(tx, key, key)?,
+    };
+    Ok(())
+}
+
+fn remove(tx: &mut Tx<'_>, map: Map, key: u64) -> Result<(), Stop> {
+    let _value = match map {
+        Map::Hash(map) => map.remove(tx, key)?,
+        Map::Ordered(map) => map.remove(tx, key)?,
+    };
+    Ok(())
+}
