@@ -1,4 +1,4 @@
-// What `bench scale` and `bench cells` are measured against, over plain words: the same transactions, drawn alike.
+// What `bench scale`, `bench cells` and `bench map` are measured against, over plain words: the same transactions, drawn alike.
 //   g++ -std=c++17 -O2 scale_peer.cc                            one thread
 //   g++ -std=c++17 -O2 -DTRANSACTIONS -fgnu-tm -pthread         a thread for each worker, in transactions of the compiler
 //   g++ -std=c++17 -O2 -DMUTEX -pthread                         a thread for each worker, under one lock of the system
@@ -138,6 +138,25 @@ static uint64_t run_words(uint32_t thread, uint32_t count) {
   return total;
 }
 
+// What `bench map` does with a map of cells, with the tree.
+static uint64_t run_map(uint32_t thread, uint32_t count) {
+  uint64_t seed = thread, sum = 0;
+  uint32_t looks = atoi(load.c_str() + 3);
+  for (uint32_t i = 0; i < count; i++) {
+    uint32_t drawn = below(seed, 200 * 65536), key = drawn % 65536, chance = drawn / 65536;
+    uint64_t found = 0;
+    if (chance / 2 < looks) {
+      ATOMIC { found = tree_get(key); }
+    } else if (chance % 2 == 0) {
+      ATOMIC { found = tree_put(key, key); }
+    } else {
+      ATOMIC { found = tree_remove(key); }
+    }
+    sum += found;
+  }
+  return sum;
+}
+
 static void put(uint32_t word) { fwrite(&word, 4, 1, stdout); }
 
 // How many accounts, keys, nodes, threads, insertions and transactions, and how many locators DSTM is to have; the keys; and
@@ -158,8 +177,8 @@ static void write(uint32_t count) {
 int main(int count, char **given) {
   if (count < 3) return 2;
   load = given[1], threads = atoi(given[2]);
-  bool of_cells = is("disjoint") || is("one") || is("bank") || is("reads");
-  uint32_t each = (of_cells ? is("reads") ? 40000 : 60000 : transactions()) / threads;
+  bool of_cells = is("disjoint") || is("one") || is("bank") || is("reads"), of_map = load.compare(0, 3, "map") == 0;
+  uint32_t each = (of_map ? 960000 : of_cells ? is("reads") ? 40000 : 60000 : transactions()) / threads;
   if (count > 3) return write(each), 0;
   open_store(4096, 1000000, 0, 65535);
   for (uint32_t i = 0; i < 32767; i++) tree_insert(i * 12347 % 32768 * 2);
@@ -168,7 +187,7 @@ int main(int count, char **given) {
   std::vector<uint64_t> sums(16 * threads);
   auto go = [&](uint32_t thread) {
     began[16 * thread] = now();
-    sums[16 * thread] = of_cells ? run_words(thread, each) : run_store(thread, each);
+    sums[16 * thread] = (of_map ? run_map : of_cells ? run_words : run_store)(thread, each);
     ended[16 * thread] = now();
   };
   long long start = now(), first = -1ull >> 1, last = 0;
