@@ -7,8 +7,6 @@ mod cells;
 #[cfg(test)]
 mod maps;
 #[cfg(test)]
-mod ordered;
-#[cfg(test)]
 mod queues;
 #[cfg(test)]
 mod runs;

@@ -1,66 +1,159 @@
-// A map alone, and beside the ordered one of std.
+// A map and an ordered one, by rows of calls, and beside the one of std. Each call is made on both in one transaction.
 use crate::cells::memory_by;
 use crate::queues::draw;
-use dstm_cells::{Failed, GaveUp, Manager, Me, Memory};
-use dstm_structures::{HashMap, Placed};
+use dstm_cells::{Failed, GaveUp, Manager, Me, Memory, Stop, Tx};
+use dstm_structures::{HashMap, OrderedMap, Placed};
 use std::alloc::Global;
 use std::collections::BTreeMap;
 use std::test::Fail;
 
-// Each call on a map is a transaction of its own.
-fn put(me: &mut Me<'_>, map: HashMap<u64>, key: u64, value: u64) -> Result<Placed<u64>, GaveUp> {
-    me.atomically(|tx| map.put(tx, key, value))
+#[derive(Clone, Copy)]
+enum Call {
+    Put(u64, u64),
+    Get(u64),
+    Contains(u64),
+    Remove(u64),
+    First,
+    Last,
+    Above(u64),
+    Pop,
 }
 
-fn get(me: &mut Me<'_>, map: HashMap<u64>, key: u64) -> Result<Option<u64>, GaveUp> {
-    me.atomically(|tx| map.get(tx, key))
+#[derive(Clone, Copy, PartialEq)]
+enum Answer {
+    Placed(Placed<u64>),
+    Value(Option<u64>),
+    There(bool),
+    Entry(Option<(u64, u64)>),
 }
 
-fn contains(me: &mut Me<'_>, map: HashMap<u64>, key: u64) -> Result<bool, GaveUp> {
-    me.atomically(|tx| map.contains(tx, key))
+#[derive(Clone, Copy)]
+struct Maps {
+    hashed: HashMap<u64>,
+    ordered: OrderedMap<u64>,
 }
 
-fn remove(me: &mut Me<'_>, map: HashMap<u64>, key: u64) -> Result<Option<u64>, GaveUp> {
-    me.atomically(|tx| map.remove(tx, key))
+fn maps_of(memory: &mut Memory, capacity: u32) -> Result<Maps, Failed> {
+    Ok(Maps {
+        hashed: HashMap::new(memory, capacity)?,
+        ordered: OrderedMap::new(memory, capacity)?,
+    })
 }
 
-// Fills a map of two keys.
-fn fills(me: &mut Me<'_>, map: HashMap<u64>) -> Result<bool, GaveUp> {
-    Ok(
-        put(me, map, 5, 50)? == Placed::New
-            && put(me, map, 5, 51)? == Placed::Instead(50)
-            && put(me, map, u64::MAX, 7)? == Placed::New
-            && put(me, map, 6, 60)? == Placed::Full,
-    )
+fn call_ordered(tx: &mut Tx<'_>, map: OrderedMap<u64>, call: Call) -> Result<Answer, Stop> {
+    match call {
+        Call::Put(key, value) => Ok(Answer::Placed(map.put(tx, key, value)?)),
+        Call::Get(key) => Ok(Answer::Value(map.get(tx, key)?)),
+        Call::Contains(key) => Ok(Answer::There(map.contains(tx, key)?)),
+        Call::Remove(key) => Ok(Answer::Value(map.remove(tx, key)?)),
+        Call::First => Ok(Answer::Entry(map.first(tx)?)),
+        Call::Last => Ok(Answer::Entry(map.last(tx)?)),
+        Call::Above(key) => Ok(Answer::Entry(map.next_above(tx, key)?)),
+        Call::Pop => Ok(Answer::Entry(map.pop_first(tx)?)),
+    }
 }
 
-// Takes a key out of it.
-fn empties(me: &mut Me<'_>, map: HashMap<u64>) -> Result<bool, GaveUp> {
-    Ok(
-        get(me, map, 5)? == Some(51)
-            && !contains(me, map, 6)?
-            && remove(me, map, 5)? == Some(51)
-            && remove(me, map, 5)?.is_none()
-            && contains(me, map, u64::MAX)?,
-    )
+// The answer of the map that has no order, which keeps the keys of the other one: that one's answer to a call of the order.
+fn call_hashed(
+    tx: &mut Tx<'_>,
+    map: HashMap<u64>,
+    call: Call,
+    told: Answer,
+) -> Result<Answer, Stop> {
+    match (call, told) {
+        (Call::Put(key, value), _) => Ok(Answer::Placed(map.put(tx, key, value)?)),
+        (Call::Get(key), _) => Ok(Answer::Value(map.get(tx, key)?)),
+        (Call::Contains(key), _) => Ok(Answer::There(map.contains(tx, key)?)),
+        (Call::Remove(key), _) => Ok(Answer::Value(map.remove(tx, key)?)),
+        (Call::Pop, Answer::Entry(Some((key, _)))) => {
+            let value = map.remove(tx, key)?;
+            Ok(Answer::Entry(value.map(|value| (key, value))))
+        }
+        _ => Ok(told),
+    }
+}
+
+// Makes a call on both. They answer alike, or there is no answer.
+fn call_both(tx: &mut Tx<'_>, maps: Maps, call: Call) -> Result<Option<Answer>, Stop> {
+    let told = call_ordered(tx, maps.ordered, call)?;
+    let same = call_hashed(tx, maps.hashed, call, told)? == told;
+    Ok(same.then_some(told))
+}
+
+// Maps with room for three keys are filled, read by their order and emptied.
+const THREE_KEYS: [(Call, Answer); 22] = [
+    (Call::Put(6, 60), Answer::Placed(Placed::New)),
+    (Call::Put(u64::MAX, 7), Answer::Placed(Placed::New)),
+    (Call::Put(5, 50), Answer::Placed(Placed::New)),
+    (Call::Put(5, 51), Answer::Placed(Placed::Instead(50))),
+    (Call::Put(1, 10), Answer::Placed(Placed::Full)),
+    (Call::Get(6), Answer::Value(Some(60))),
+    (Call::Contains(1), Answer::There(false)),
+    (Call::Contains(u64::MAX), Answer::There(true)),
+    (Call::First, Answer::Entry(Some((5, 51)))),
+    (Call::Last, Answer::Entry(Some((u64::MAX, 7)))),
+    (Call::Above(0), Answer::Entry(Some((5, 51)))),
+    (Call::Above(5), Answer::Entry(Some((6, 60)))),
+    (Call::Above(6), Answer::Entry(Some((u64::MAX, 7)))),
+    (Call::Above(u64::MAX), Answer::Entry(None)),
+    (Call::Remove(6), Answer::Value(Some(60))),
+    (Call::Remove(6), Answer::Value(None)),
+    (Call::Above(5), Answer::Entry(Some((u64::MAX, 7)))),
+    (Call::Pop, Answer::Entry(Some((5, 51)))),
+    (Call::Pop, Answer::Entry(Some((u64::MAX, 7)))),
+    (Call::Pop, Answer::Entry(None)),
+    (Call::First, Answer::Entry(None)),
+    (Call::Last, Answer::Entry(None)),
+];
+
+// Makes the calls, and tells whether they are answered so.
+fn answer_so(me: &mut Me<'_>, maps: Maps, rows: &[(Call, Answer)]) -> Result<bool, GaveUp> {
+    for (call, wanted) in rows {
+        if me.atomically(|tx| call_both(tx, maps, *call))? != Some(*wanted) {
+            return Ok(false);
+        }
+    }
+    Ok(true)
 }
 
 #[test]
-fn a_map_of_two_keys(rt: HostRuntime) -> Result<(), Fail> {
+fn maps_of_three_keys(rt: HostRuntime) -> Result<(), Fail> {
     for manager in [None, Some(Manager::Polka)] {
         let mut memory = memory_by(rt.alloc(), manager);
-        let map = HashMap::new(&mut memory, 2)?;
-        assert!(rt; map.capacity() == 2);
-        let filled = memory.run_each(&rt, 1, |me, _| fills(me, map))?;
-        assert!(rt; filled.as_slice() == [true].as_slice());
-        let emptied = memory.run_each(&rt, 1, |me, _| empties(me, map))?;
-        assert!(rt; emptied.as_slice() == [true].as_slice());
+        let maps = maps_of(&mut memory, 3)?;
+        assert!(rt; maps.hashed.capacity() == 3 && maps.ordered.capacity() == 3);
+        let same = memory.run_each(&rt, 1, |me, _| answer_so(me, maps, &THREE_KEYS))?;
+        assert!(rt; same.as_slice() == [true].as_slice());
     }
     Ok(())
 }
 
-// What a map with room for twelve keys answers.
-fn expected(plain: &mut BTreeMap<u64, u64>, key: u64, value: u64) -> Result<Placed<u64>, GaveUp> {
+// A small key, or one that has its bits high up.
+fn key_of(drawn: u64) -> u64 {
+    let small = drawn / 2 % 20;
+    if drawn % 2 == 0 {
+        small
+    } else {
+        u64::MAX - small * 900_000_000_000_000_000
+    }
+}
+
+fn call_of(drawn: u64) -> Call {
+    let key = key_of(drawn / 16);
+    match drawn % 16 {
+        0..=5 => Call::Put(key, drawn),
+        6..=8 => Call::Remove(key),
+        9 | 10 => Call::Above(key),
+        11 => Call::Contains(key),
+        12 => Call::First,
+        13 => Call::Last,
+        14 => Call::Pop,
+        _ => Call::Get(key),
+    }
+}
+
+// Puts a key into a map of std that has room for twelve.
+fn place(plain: &mut BTreeMap<u64, u64>, key: u64, value: u64) -> Result<Placed<u64>, GaveUp> {
     let placed = match plain.get(&key).copied() {
         Some(had) => Placed::Instead(had),
         None if plain.len() == 12 => return Ok(Placed::Full),
@@ -72,32 +165,70 @@ fn expected(plain: &mut BTreeMap<u64, u64>, key: u64, value: u64) -> Result<Plac
     }
 }
 
-// Makes a call on both, and tells whether they answer alike.
-fn agrees(
-    me: &mut Me<'_>,
-    map: HashMap<u64>,
-    plain: &mut BTreeMap<u64, u64>,
-    drawn: u64,
-) -> Result<bool, GaveUp> {
-    let key = drawn / 16 % 20;
-    match drawn % 4 {
-        0 | 1 => Ok(put(me, map, key, drawn)? == expected(plain, key, drawn)?),
-        2 => Ok(remove(me, map, key)? == plain.remove(&key)),
-        _ => Ok(get(me, map, key)? == plain.get(&key).copied()),
+// The first key from this one on, with its value.
+fn first_from(plain: &BTreeMap<u64, u64>, least: u64) -> Option<(u64, u64)> {
+    for (key, value) in plain {
+        if *key >= least {
+            return Some((*key, *value));
+        }
+    }
+    None
+}
+
+// The last key with its value.
+fn last_of(plain: &BTreeMap<u64, u64>) -> Option<(u64, u64)> {
+    let mut last = None;
+    for (key, value) in plain {
+        last = Some((*key, *value));
+    }
+    last
+}
+
+// Takes the first key out.
+fn popped(plain: &mut BTreeMap<u64, u64>) -> Option<(u64, u64)> {
+    let first = first_from(plain, 0);
+    if let Some((key, _)) = first {
+        let _value = plain.remove(&key);
+    }
+    first
+}
+
+// What a map of std answers.
+fn expected(plain: &mut BTreeMap<u64, u64>, call: Call) -> Result<Answer, GaveUp> {
+    match call {
+        Call::Put(key, value) => Ok(Answer::Placed(place(plain, key, value)?)),
+        Call::Get(key) => Ok(Answer::Value(plain.get(&key).copied())),
+        Call::Contains(key) => Ok(Answer::There(plain.contains_key(&key))),
+        Call::Remove(key) => Ok(Answer::Value(plain.remove(&key))),
+        Call::First => Ok(Answer::Entry(first_from(plain, 0))),
+        Call::Last => Ok(Answer::Entry(last_of(plain))),
+        Call::Above(u64::MAX) => Ok(Answer::Entry(None)),
+        Call::Above(key) => Ok(Answer::Entry(first_from(plain, key + 1))),
+        Call::Pop => Ok(Answer::Entry(popped(plain))),
     }
 }
 
-// Makes so many calls, and tells whether all are answered alike.
-fn all_agree(
-    me: &mut Me<'_>,
-    map: HashMap<u64>,
-    alloc: Global,
-    calls: u32,
-) -> Result<bool, GaveUp> {
+// Fifty calls on empty maps with room for twelve keys, and twelve that empty them; and whether all are answered alike.
+fn beside_std(me: &mut Me<'_>, maps: Maps, alloc: Global, seed: &mut u64) -> Result<bool, GaveUp> {
     let mut plain = BTreeMap::new(alloc);
+    for number in 0..62u32 {
+        let call = if number < 50 {
+            call_of(draw(seed))
+        } else {
+            Call::Pop
+        };
+        let wanted = expected(&mut plain, call)?;
+        if me.atomically(|tx| call_both(tx, maps, call))? != Some(wanted) {
+            return Ok(false);
+        }
+    }
+    Ok(plain.is_empty())
+}
+
+fn all_beside_std(me: &mut Me<'_>, maps: Maps, alloc: Global, rounds: u32) -> Result<bool, GaveUp> {
     let mut seed = 1;
-    for _ in 0..calls {
-        if !agrees(me, map, &mut plain, draw(&mut seed))? {
+    for _ in 0..rounds {
+        if !beside_std(me, maps, alloc, &mut seed)? {
             return Ok(false);
         }
     }
@@ -105,21 +236,23 @@ fn all_agree(
 }
 
 #[test]
-fn a_map_does_what_an_ordered_map_does(rt: HostRuntime) -> Result<(), Fail> {
+fn maps_do_what_that_of_std_does(rt: HostRuntime) -> Result<(), Fail> {
     let alloc = rt.alloc();
-    for (manager, calls) in [(None, 5_000), (Some(Manager::Karma), 1_000)] {
+    for (manager, rounds) in [(None, 2_000), (Some(Manager::Karma), 200)] {
         let mut memory = memory_by(alloc, manager);
-        let map = HashMap::new(&mut memory, 12)?;
-        let same = memory.run_each(&rt, 1, |me, _| all_agree(me, map, alloc, calls))?;
+        let maps = maps_of(&mut memory, 12)?;
+        let same = memory.run_each(&rt, 1, |me, _| all_beside_std(me, maps, alloc, rounds))?;
         assert!(rt; same.as_slice() == [true].as_slice());
     }
     Ok(())
 }
 
 #[test]
-fn a_map_has_from_one_key_on(rt: HostRuntime) -> Result<(), Fail> {
+fn maps_have_from_one_key_on(rt: HostRuntime) -> Result<(), Fail> {
     let mut memory = Memory::new(rt.alloc());
-    let none: Result<HashMap<u64>, Failed> = HashMap::new(&mut memory, 0);
-    assert!(rt; matches!(none, Err(Failed::Full)));
+    let hashed: Result<HashMap<u64>, Failed> = HashMap::new(&mut memory, 0);
+    let ordered: Result<OrderedMap<u64>, Failed> = OrderedMap::new(&mut memory, 0);
+    assert!(rt; matches!(hashed, Err(Failed::Full)));
+    assert!(rt; matches!(ordered, Err(Failed::Full)));
     Ok(())
 }
