@@ -16,7 +16,10 @@ pub fn render(alloc: Global, report: &Report) -> Result<Vec<u8>, AllocError>
     // What is written are numbers of 64 bits, as their types say.
     ensures fits { IfOk result (λ _. All FitsRow report.now.rows) }
 {
-    let mut out = Vec::from_slice(alloc, b"dstm report ")?;
+    // A row of few replies has some 30 bytes.
+    let room = report.rows.as_slice().len().saturating_mul(32);
+    let mut out = Vec::with_capacity(alloc, room)?;
+    out.extend_from_slice(b"dstm report ")?;
     push_decimal(&mut out, u64::from(report.version))?;
     out.push(b'\n')?;
     push_rows(&mut out, report.rows.as_slice())?;
