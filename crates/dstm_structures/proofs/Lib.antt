@@ -4,6 +4,7 @@ pub mod Dropping
 pub mod Effects
 pub mod Forks
 pub mod Growing
+pub mod Items
 pub mod Losing
 pub mod Mapping
 pub mod Maps
@@ -15,5 +16,6 @@ pub mod Places
 pub mod Placing
 pub mod Powers
 pub mod Queues
+pub mod Sets
 pub mod Tipping
 pub mod Tries

@@ -1,8 +1,10 @@
 pub mod Circles
 pub mod Effects
+pub mod Items
 pub mod Maps
 pub mod Ordered
 pub mod Orders
 pub mod Places
 pub mod Queues
+pub mod Sets
 pub mod Tips

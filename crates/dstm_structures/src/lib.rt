@@ -1,14 +1,17 @@
-//! Structures that transactions change together with cells: a queue, a map and an ordered map in the cells of a memory. Whoever
-//! uses them states no law and proves nothing.
+//! Structures that transactions change together with cells: a queue, a map, an ordered map and an ordered set in the cells of a
+//! memory. Whoever uses them states no law and proves nothing.
 #![tactic(auto)]
 
 mod cells;
+mod listing;
 mod map;
 mod order;
 mod ordered;
 mod queue;
+mod set;
 mod tips;
 
 pub use map::{HashMap, Placed};
 pub use ordered::OrderedMap;
 pub use queue::Queue;
+pub use set::{Inserted, OrderedSet};

@@ -1,0 +1,131 @@
+-- What the calls on an ordered set do, by what those on its map do.
+use Rattle.std.proofs.Common.{◌≡◌, ◌∙◌, ℕ, Bool, true, false, List, ap, refl, sym, subst}
+use Rattle.std.specs.Prelude.{Option, None, Some, is_some}
+use Rattle.dstm_model.specs.declared.value.Val.{Val}
+use Rattle.dstm_structures.specs.Maps.{Seeks, at_place, place_in, values_in}
+use Rattle.dstm_structures.specs.Ordered as ordered
+use Rattle.dstm_structures.specs.Sets.{Adds, Inserts, IsFirst, IsFirstAbove, IsLast, Makes, Pops, Removes, TellsAbove, TellsFirst, TellsIf, TellsLast, inserted_by, key_in, present_of}
+use Rattle.dstm_structures.specs.declared.map.Placed.{Placed}
+use Rattle.dstm_structures.specs.declared.map.Placed.TheVariants.{New, Instead, Full}
+use Rattle.dstm_structures.specs.declared.set.Inserted.{Inserted}
+use Rattle.dstm_structures.specs.declared.set.OrderedSet.{OrderedSet}
+use Rattle.dstm_structures.specs.declared.set.Present.{Present}
+use Rattle.dstm_structures.proofs.Mapping.{tells-if}
+use Rattle.dstm_structures.proofs.Places.{none_not}
+
+module _ (set : OrderedSet) where
+  -- an empty set is made
+  pub adds : (before after : List Val) → ordered.Adds present_of set.map before after → Adds set before after
+  adds before after a = record {
+    added = a.added;
+    behind = a.behind;
+    first = a.first;
+    count = a.count;
+    empty = λ key. ap is_some (a.empty key);
+    order = a.order;
+  }
+
+  -- ---- what is set
+
+  makes : (key : ℕ) (now had : Option Present) (before after : List Val) →
+      ordered.Makes present_of set.map key now had before after →
+      Makes set key (is_some now) (is_some had) before after
+  makes key now had before after m = record {
+    was = ap is_some m.was;
+    is = ap is_some m.is;
+    others = λ k apart. ap is_some (m.others k apart);
+    around = m.around;
+    order = m.order;
+  }
+
+  -- a key is there
+  pub inserts-there : (key : ℕ) (place : Option ℕ) (before after : List Val) → is_some place ≡ true →
+      Seeks set.map.map key place before after → TellsIf set key true before after
+  inserts-there key place before after it s =
+      subst (λ (b : Bool). TellsIf set key b before after) it (tells-if present_of set.map.map key place before after s)
+
+  -- a key that is not there is put
+  pub inserts-absent : (key : ℕ) (value : Present) (place : Option ℕ) (put : Placed Present) (answer : Inserted)
+      (before mid after : List Val) → is_some place ≡ false → answer ≡ inserted_by put → Seeks set.map.map key place before mid →
+      ordered.Adding present_of set.map key value put mid after → Inserts set key answer before after
+  inserts-absent key value place put answer before mid after other is s adding =
+      subst (λ (a : Inserted). Inserts set key a before after) (sym is)
+      (by put (subst (λ (xs : List Val). ordered.Adding present_of set.map key value put xs after) s.same adding absent))
+    where
+      nowhere : (o : Option ℕ) → is_some o ≡ false → o ≡ None
+      nowhere None e = refl
+      nowhere (Some at) e = absurd (cc)
+
+      absent : place_in set.map.map.cells.first set.map.map.cells.capacity before key ≡ None
+      absent = s.is ∙ nowhere place other
+
+      by : (p : Placed Present) → ordered.Puts present_of set.map key value p before after →
+          Inserts set key (inserted_by p) before after
+      by New m = makes key (Some value) None before after m
+      by (Instead had) m =
+          absurd (none_not had
+          (sym (ap (at_place (values_in present_of set.map.map.cells.first set.map.map.cells.capacity before)) absent) ∙ m.was))
+      by Full none = record { was = ap is_some none.was; full = none.full; same = none.same }
+
+  -- a key is taken out
+  pub removes : (key : ℕ) (removed : Option Present) (answer : Bool) (before after : List Val) → answer ≡ is_some removed →
+      ordered.Removes present_of set.map key removed before after → Removes set key answer before after
+  removes key removed answer before after is r =
+      subst (λ (b : Bool). Removes set key b before after) (sym is) (by removed r)
+    where
+      by : (o : Option Present) → ordered.Removes present_of set.map key o before after →
+          Removes set key (is_some o) before after
+      by None t = record { is = ap is_some t.is; same = t.same }
+      by (Some had) m = makes key None (Some had) before after m
+
+  -- ---- keys by their order
+
+  first-in : (values : List Val) (entry : Option (ℕ × Present)) → ordered.IsFirst present_of set.map entry values →
+      IsFirst set (key_in entry) values
+  first-in values None f = λ k. ap is_some (f k)
+  first-in values (Some entry) f = (ap is_some f.0, λ k less. ap is_some (f.1 k less))
+
+  last-in : (values : List Val) (entry : Option (ℕ × Present)) → ordered.IsLast present_of set.map entry values →
+      IsLast set (key_in entry) values
+  last-in values None l = λ k. ap is_some (l k)
+  last-in values (Some entry) l = (ap is_some l.0, λ k more. ap is_some (l.1 k more))
+
+  above-in : (low : ℕ) (values : List Val) (entry : Option (ℕ × Present)) →
+      ordered.IsFirstAbove present_of set.map low entry values → IsFirstAbove set low (key_in entry) values
+  above-in low values None a = λ k more. ap is_some (a k more)
+  above-in low values (Some entry) a = (ap is_some a.0, a.1, λ k more less. ap is_some (a.2 k more less))
+
+  pub tells-first : (entry : Option (ℕ × Present)) (answer : Option ℕ) (before after : List Val) → answer ≡ key_in entry →
+      ordered.TellsFirst present_of set.map entry before after → TellsFirst set answer before after
+  tells-first entry answer before after is t =
+      subst (λ (a : Option ℕ). TellsFirst set a before after) (sym is)
+      (record { is = λ order. first-in before entry (t.is order); same = t.same })
+
+  pub tells-last : (entry : Option (ℕ × Present)) (answer : Option ℕ) (before after : List Val) → answer ≡ key_in entry →
+      ordered.TellsLast present_of set.map entry before after → TellsLast set answer before after
+  tells-last entry answer before after is t =
+      subst (λ (a : Option ℕ). TellsLast set a before after) (sym is)
+      (record { is = λ order. last-in before entry (t.is order); same = t.same })
+
+  pub tells-above : (low : ℕ) (entry : Option (ℕ × Present)) (answer : Option ℕ) (before after : List Val) →
+      answer ≡ key_in entry → ordered.TellsAbove present_of set.map low entry before after →
+      TellsAbove set low answer before after
+  tells-above low entry answer before after is t =
+      subst (λ (a : Option ℕ). TellsAbove set low a before after) (sym is)
+      (record { is = λ order. above-in low before entry (t.is order); same = t.same })
+
+  -- the first key is taken out
+  pub pops : (entry : Option (ℕ × Present)) (answer : Option ℕ) (before after : List Val) → answer ≡ key_in entry →
+      ordered.Pops present_of set.map entry before after → Pops set answer before after
+  pops entry answer before after is p =
+      subst (λ (a : Option ℕ). Pops set a before after) (sym is) (by entry p)
+    where
+      by : (o : Option (ℕ × Present)) → ordered.Pops present_of set.map o before after → Pops set (key_in o) before after
+      by None t = record { is = λ order. first-in before None (t.is order); same = t.same }
+      by (Some taken) t = record {
+        first = λ order. first-in before (Some taken) (t.first order);
+        is = ap is_some t.is;
+        others = λ k apart. ap is_some (t.others k apart);
+        around = t.around;
+        order = t.order;
+      }

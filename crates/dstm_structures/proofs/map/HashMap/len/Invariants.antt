@@ -1,0 +1,16 @@
+use Rattle.std.proofs.Common.{◌≤◌}
+use Rattle.dstm_cells.specs.Alternatives.{Notes, noting}
+use Rattle.dstm_cells.specs.UnderWay.{Keeps}
+use Rattle.dstm_structures.specs.Effects.{Does}
+use Rattle.dstm_structures.specs.Maps.{end_of}
+use Rattle.dstm_structures.proofs.Items.{Counting}
+use Rattle.dstm_structures.proofs.map.HashMap.len.Given as goal
+
+-- the keys are counted that are found at the places that were passed
+abbrev pub invariant-loop-at : goal.invariant-loop-at
+invariant-loop-at g l =
+    (l.count ≤ l.at)
+    × Keeps l.fn.tx.attempts.caller l.tx.attempts.caller
+    × Notes g.L.Law.holds (noting l.fn.tx) (noting l.tx)
+    × Does g.L.Law.holds (end_of l.self) (Counting g.V.Word.found l.self l.at l.count) l.fn.tx.attempts.caller
+    l.tx.attempts.caller

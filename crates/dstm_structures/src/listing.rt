@@ -1,0 +1,154 @@
+// What a map has altogether: its items, and how many there are.
+ghost use Rattle.std.specs.Prelude.{◌≡◌, ◌<◌, ◌≤◌, false, true, if◌then◌else◌, is_some, IfErr, IfOk, OnOk};
+ghost use Rattle.dstm_cells.specs.Alternatives.{Notes, noting};
+ghost use Rattle.dstm_cells.specs.UnderWay.{Keeps};
+ghost use Rattle.dstm_structures.specs.Effects.{Does, Stops};
+ghost use Rattle.dstm_structures.specs.Items.{Counts, Lists, ListsInOrder, ListsPlace, Stands, if_above};
+ghost use Rattle.dstm_structures.specs.Maps.{end_of};
+ghost use Rattle.dstm_structures.specs.Orders.{order_end};
+ghost use Rattle.dstm_structures.specs.Places.{is_key};
+
+use crate::map::HashMap;
+use crate::ordered::OrderedMap;
+use dstm_cells::{Stop, Tx, Word};
+use dstm_model::Law;
+use std::alloc::Global;
+
+impl<V: Word> HashMap<V> {
+    /// How many keys there are. It looks at each place, so it is dear, and a change of any key is one of what it has read.
+    pub fn len<L: Law>(self, tx: &mut Tx<'_, L>) -> Result<u32, Stop>
+        ensures keeps { Keeps tx.old.attempts.caller tx.new.attempts.caller }
+        ensures notes { Notes L.holds (noting tx.old) (noting tx.new) }
+        ensures stops { IfErr result (λ stop. Stops (end_of self) false tx.old.attempts.caller stop.why) }
+        ensures counts { IfOk result (λ count. Does L.holds (end_of self) (Counts V.found self count)
+            tx.old.attempts.caller tx.new.attempts.caller) }
+    {
+        let mut count: u32 = 0;
+        for at in 0..self.cells.capacity {
+            let key = self.stands(tx, at)?;
+            count += one_if(key);
+        }
+        Ok(count)
+    }
+
+    /// All keys with their values, in no order. It looks at each place, as `len` does.
+    pub fn to_vec<L: Law>(self, tx: &mut Tx<'_, L>, alloc: Global) -> Result<Vec<(u64, V)>, Stop>
+        ensures keeps { Keeps tx.old.attempts.caller tx.new.attempts.caller }
+        ensures notes { Notes L.holds (noting tx.old) (noting tx.new) }
+        ensures stops { IfErr result (λ stop. Stops (end_of self) true tx.old.attempts.caller stop.why) }
+        ensures lists { IfOk result (λ items. Does L.holds (end_of self) (Lists V.found self items.items)
+            tx.old.attempts.caller tx.new.attempts.caller) }
+    {
+        let mut items = Vec::new(alloc);
+        for at in 0..self.cells.capacity {
+            self.list_place(tx, &mut items, at)?;
+        }
+        Ok(items)
+    }
+
+    // Adds what is found at a place to these items.
+    fn list_place<L: Law>(
+        self,
+        tx: &mut Tx<'_, L>,
+        items: &mut Vec<(u64, V)>,
+        at: u32,
+    ) -> Result<(), Stop>
+        requires { at < self.cells.capacity }
+        ensures keeps { Keeps tx.old.attempts.caller tx.new.attempts.caller }
+        ensures notes { Notes L.holds (noting tx.old) (noting tx.new) }
+        ensures stops { IfErr result (λ stop. Stops (end_of self) true tx.old.attempts.caller stop.why) }
+        ensures lists { OnOk result (Does L.holds (end_of self) (ListsPlace V.found self at items.old.items items.new.items)
+            tx.old.attempts.caller tx.new.attempts.caller) }
+    {
+        let found = self.stands(tx, at)?;
+        let Some(key) = found else {
+            return Ok(());
+        };
+        let value = tx.get(self.value_at(at))?;
+        items.push((key, value))?;
+        Ok(())
+    }
+
+    // The key that is found at a place, if one is.
+    fn stands<L: Law>(self, tx: &mut Tx<'_, L>, at: u32) -> Result<Option<u64>, Stop>
+        requires { at < self.cells.capacity }
+        ensures keeps { Keeps tx.old.attempts.caller tx.new.attempts.caller }
+        ensures notes { Notes L.holds (noting tx.old) (noting tx.new) }
+        ensures stops { IfErr result (λ stop. Stops (end_of self) false tx.old.attempts.caller stop.why) }
+        ensures stands { IfOk result (λ key. Does L.holds (end_of self) (Stands self at key)
+            tx.old.attempts.caller tx.new.attempts.caller) }
+    {
+        let held = tx.get(self.cells.key_at(at))?;
+        let Some(key) = held else {
+            return Ok(None);
+        };
+        let place = self.find(tx, key)?;
+        if is_at(at, place) {
+            Ok(Some(key))
+        } else {
+            Ok(None)
+        }
+    }
+}
+
+impl<V: Word> OrderedMap<V> {
+    /// How many keys there are. It looks at each place, so it is dear, and a change of any key is one of what it has read.
+    pub fn len<L: Law>(self, tx: &mut Tx<'_, L>) -> Result<u32, Stop>
+        ensures keeps { Keeps tx.old.attempts.caller tx.new.attempts.caller }
+        ensures notes { Notes L.holds (noting tx.old) (noting tx.new) }
+        ensures stops { IfErr result (λ stop. Stops (end_of self.map) false tx.old.attempts.caller stop.why) }
+        ensures counts { IfOk result (λ count. Does L.holds (end_of self.map) (Counts V.found self.map count)
+            tx.old.attempts.caller tx.new.attempts.caller) }
+    {
+        self.map.len(tx)
+    }
+
+    /// All keys with their values, in the order of the keys.
+    pub fn to_vec<L: Law>(self, tx: &mut Tx<'_, L>, alloc: Global) -> Result<Vec<(u64, V)>, Stop>
+        ensures keeps { Keeps tx.old.attempts.caller tx.new.attempts.caller }
+        ensures notes { Notes L.holds (noting tx.old) (noting tx.new) }
+        ensures stops { IfErr result (λ stop. Stops (order_end self.map.cells) true tx.old.attempts.caller stop.why) }
+        ensures lists { IfOk result (λ items. Does L.holds (order_end self.map.cells) (ListsInOrder V.found self items.items)
+            tx.old.attempts.caller tx.new.attempts.caller) }
+    {
+        let mut items = Vec::new(alloc);
+        let mut next = self.first(tx)?;
+        while let Some(entry) = next {
+            items.push(entry)?;
+            let above = self.next_above(tx, entry.0)?;
+            next = if_above(entry.0, above);
+        }
+        Ok(items)
+    }
+}
+
+// 1 for a key, and 0 for none.
+fn one_if(key: Option<u64>) -> u32
+    ensures is { result ≡ (if is_some key then 1 else 0) }
+    ensures few { result ≤ 1 }
+{
+    match key {
+        Some(_) => 1,
+        None => 0,
+    }
+}
+
+// An item, where its key is above this one.
+fn if_above<V: Word>(key: u64, above: Option<(u64, V)>) -> Option<(u64, V)>
+    ensures { result ≡ if_above key above }
+{
+    match above {
+        Some(entry) => { if key < entry.0 { Some(entry) } else { None } }
+        None => None,
+    }
+}
+
+// Whether this is the place.
+fn is_at(at: u32, place: Option<u32>) -> bool
+    ensures { result ≡ is_key at place }
+{
+    match place {
+        Some(place) => place == at,
+        None => false,
+    }
+}
