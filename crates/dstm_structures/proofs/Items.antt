@@ -8,7 +8,7 @@ use Rattle.std.proofs.lemmas.List.Quantifiers.{all_pairs_push}
 use Rattle.dstm_model.specs.declared.value.Val.{Val}
 use Rattle.dstm_model.specs.Map.{value_at}
 use Rattle.dstm_structures.specs.Items.{AreItems, Counts, Lists, ListsInOrder, ListsPlace, Stands, if_above, with_item}
-use Rattle.dstm_structures.specs.Maps.{Seeks, at_place, item_of, key_at, key_of, place_in, values_in}
+use Rattle.dstm_structures.specs.Maps.{Seeks, at_place, item_of, key_of, place_in, values_in}
 use Rattle.dstm_structures.specs.Ordered.{IsFirst, IsFirstAbove, IsInOrder, TellsAbove, TellsFirst, TellsInOrder}
 use Rattle.dstm_structures.specs.Places.{is_key}
 use Rattle.dstm_structures.specs.declared.map.HashMap.{HashMap}

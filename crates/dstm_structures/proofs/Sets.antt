@@ -1,10 +1,13 @@
 -- What the calls on an ordered set do, by what those on its map do.
-use Rattle.std.proofs.Common.{◌≡◌, ◌∙◌, ℕ, Bool, true, false, List, ap, refl, sym, subst}
-use Rattle.std.specs.Prelude.{Option, None, Some, is_some}
+use Rattle.std.proofs.Common.{◌≡◌, ◌∙◌, ℕ, ◌<◌, Bool, true, false, List, ap, arith, get_or, length, refl, sym, subst}
+use Rattle.std.specs.Prelude.{Contains, Option, None, Some, is_some, map}
+use Rattle.std.proofs.lemmas.List.{get_or-map, length-map}
+use Rattle.std.proofs.lemmas.List.Elements.{Contains-get_or}
 use Rattle.dstm_model.specs.declared.value.Val.{Val}
-use Rattle.dstm_structures.specs.Maps.{Seeks, at_place, place_in, values_in}
+use Rattle.dstm_structures.specs.Items as items
+use Rattle.dstm_structures.specs.Maps.{Seeks, at_place, item_of, place_in, values_in}
 use Rattle.dstm_structures.specs.Ordered as ordered
-use Rattle.dstm_structures.specs.Sets.{Adds, Inserts, IsFirst, IsFirstAbove, IsLast, Makes, Pops, Removes, TellsAbove, TellsFirst, TellsIf, TellsLast, inserted_by, key_in, present_of}
+use Rattle.dstm_structures.specs.Sets.{Adds, Counts, Inserts, IsFirst, IsFirstAbove, IsLast, Makes, Pops, Removes, TellsAbove, TellsFirst, TellsIf, TellsLast, inserted_by, key_in, present_of}
 use Rattle.dstm_structures.specs.declared.map.Placed.{Placed}
 use Rattle.dstm_structures.specs.declared.map.Placed.TheVariants.{New, Instead, Full}
 use Rattle.dstm_structures.specs.declared.set.Inserted.{Inserted}
@@ -129,3 +132,43 @@ module _ (set : OrderedSet) where
         around = t.around;
         order = t.order;
       }
+
+  -- ---- how many there are
+
+  pub counts : (count : ℕ) (before after : List Val) → items.Counts present_of set.map.map count before after →
+      Counts set count before after
+  counts count before after c = record {
+    keys = map key c.items;
+    all = λ k it. from k (item_of present_of set.map.map before k) refl it;
+    only = λ k has.
+        let entry : ℕ × Present = get_or c.items has.0 (k, record {}) in
+        let same : entry.0 ≡ k = sym (get_or-map key c.items has.0 (k, record {}) k (inside has.0 has.1)) ∙ has.2 in
+        ap (λ (x : ℕ). is_some (item_of present_of set.map.map before x)) (sym same)
+        ∙ ap is_some (c.lists.only entry.0 entry.1 (Contains-get_or c.items has.0 (k, record {}) (inside has.0 has.1)));
+    once = λ i j d less within.
+        let far : j < length c.items = inside j within in
+        let near : i < length c.items = omega (arith, less, far) in
+        λ same. c.lists.once i j (d, record {}) less far
+        (sym (get_or-map key c.items i (d, record {}) d near) ∙ same ∙ get_or-map key c.items j (d, record {}) d far);
+    is = c.is ∙ sym (length-map c.items key);
+    same = c.lists.same;
+  }
+    where
+      key : ℕ × Present → ℕ
+      key entry = entry.0
+
+      inside : (k : ℕ) → k < length (map key c.items) → k < length c.items
+      inside k within = subst (λ (n : ℕ). k < n) (length-map c.items key) within
+
+      from : (k : ℕ) (o : Option Present) → item_of present_of set.map.map before k ≡ o →
+          is_some (item_of present_of set.map.map before k) ≡ true → Contains (map key c.items) k
+      from k None is it = absurd (never (sym (ap is_some is) ∙ it))
+        where
+          never : false ≡ true → ⊥
+          never e = cc
+      from k (Some value) is it =
+          let has = c.lists.all k value is in (
+            has.0,
+            subst (λ (n : ℕ). has.0 < n) (sym (length-map c.items key)) has.1,
+            get_or-map key c.items has.0 (k, value) k has.1 ∙ ap key has.2,
+          )

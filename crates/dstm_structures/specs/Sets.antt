@@ -1,5 +1,5 @@
 -- What the calls on an ordered set do, by what its cells hold.
-use Rattle.std.specs.Prelude.{◌≡◌, ◌≢◌, ◌⊎◌, ℕ, ◌+◌, ◌*◌, ◌<◌, Bool, true, false, List, ◌++◌, length, Option, None, Some, is_some}
+use Rattle.std.specs.Prelude.{◌≡◌, ◌≢◌, ◌⊎◌, ℕ, ◌+◌, ◌*◌, ◌<◌, Bool, true, false, List, ◌++◌, length, AllPairs, Contains, Option, None, Some, is_some}
 use Rattle.dstm_model.specs.declared.value.Val.{Val}
 use Rattle.dstm_structures.specs.Maps as maps
 use Rattle.dstm_structures.specs.Maps.{item_of, key_at}
@@ -109,6 +109,15 @@ module _ (set : OrderedSet) where
   abbrev pub Pops : Option ℕ → List Val → List Val → Type 0
   Pops None before after = TellsFirst None before after
   Pops (Some key) before after = TakesFirst key before after
+
+  -- SO MANY KEYS ARE IN THE SET, and nothing was set
+  pub record Counts (count : ℕ) (before after : List Val) : Type 0 where
+    pub keys : List ℕ
+    pub all : (key : ℕ) → is_in before key ≡ true → Contains keys key
+    pub only : (key : ℕ) → Contains keys key → is_in before key ≡ true
+    pub once : AllPairs (λ one other. one ≢ other) keys
+    pub is : count ≡ length keys
+    pub same : after ≡ before
 
   -- an empty set, in order, has got the objects behind those before
   pub record Adds (before after : List Val) : Type 0 where

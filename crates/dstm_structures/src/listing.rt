@@ -1,4 +1,4 @@
-// What a map has altogether: its items, and how many there are.
+// What a map or a set has altogether: its items, and how many there are.
 ghost use Rattle.std.specs.Prelude.{◌≡◌, ◌<◌, ◌≤◌, false, true, if◌then◌else◌, is_some, IfErr, IfOk, OnOk};
 ghost use Rattle.dstm_cells.specs.Alternatives.{Notes, noting};
 ghost use Rattle.dstm_cells.specs.UnderWay.{Keeps};
@@ -7,15 +7,17 @@ ghost use Rattle.dstm_structures.specs.Items.{Counts, Lists, ListsInOrder, Lists
 ghost use Rattle.dstm_structures.specs.Maps.{end_of};
 ghost use Rattle.dstm_structures.specs.Orders.{order_end};
 ghost use Rattle.dstm_structures.specs.Places.{is_key};
+ghost use Rattle.dstm_structures.specs.Sets as sets;
 
 use crate::map::HashMap;
 use crate::ordered::OrderedMap;
+use crate::set::OrderedSet;
 use dstm_cells::{Stop, Tx, Word};
 use dstm_model::Law;
 use std::alloc::Global;
 
 impl<V: Word> HashMap<V> {
-    /// How many keys there are. It looks at each place, so it is dear, and a change of any key is one of what it has read.
+    /// How many keys there are. It looks at each place, and so any change of a key comes into its way.
     pub fn len<L: Law>(self, tx: &mut Tx<'_, L>) -> Result<u32, Stop>
         ensures keeps { Keeps tx.old.attempts.caller tx.new.attempts.caller }
         ensures notes { Notes L.holds (noting tx.old) (noting tx.new) }
@@ -92,7 +94,7 @@ impl<V: Word> HashMap<V> {
 }
 
 impl<V: Word> OrderedMap<V> {
-    /// How many keys there are. It looks at each place, so it is dear, and a change of any key is one of what it has read.
+    /// How many keys there are. It looks at each place, and so any change of a key comes into its way.
     pub fn len<L: Law>(self, tx: &mut Tx<'_, L>) -> Result<u32, Stop>
         ensures keeps { Keeps tx.old.attempts.caller tx.new.attempts.caller }
         ensures notes { Notes L.holds (noting tx.old) (noting tx.new) }
@@ -119,6 +121,20 @@ impl<V: Word> OrderedMap<V> {
             next = if_above(entry.0, above);
         }
         Ok(items)
+    }
+}
+
+impl OrderedSet {
+    /// How many keys are in the set. It looks at each place, as `HashMap::len` does.
+    pub fn len<L: Law>(self, tx: &mut Tx<'_, L>) -> Result<u32, Stop>
+        ensures keeps { Keeps tx.old.attempts.caller tx.new.attempts.caller }
+        ensures notes { Notes L.holds (noting tx.old) (noting tx.new) }
+        ensures stops { IfErr result (λ stop. Stops (end_of self.map.map) false tx.old.attempts.caller stop.why) }
+        ensures counts { IfOk result (λ count. Does L.holds (end_of self.map.map) (sets.Counts self count)
+            tx.old.attempts.caller tx.new.attempts.caller) }
+    {
+        let count = self.map.len(tx)?;
+        Ok(count)
     }
 }
 

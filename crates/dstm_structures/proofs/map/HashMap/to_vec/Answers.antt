@@ -1,4 +1,4 @@
-use Rattle.std.proofs.Common.{◌≡◌, ◌∙◌, ℕ, ◌+◌, List, arith, refl, subst, sym}
+use Rattle.std.proofs.Common.{◌∙◌, ℕ, ◌+◌, List, arith, refl, subst, sym}
 use Rattle.dstm_cells.specs.Alternatives.{noting}
 use Rattle.dstm_structures.specs.Items.{Lists, ListsPlace}
 use Rattle.dstm_structures.specs.Maps.{end_of}
