@@ -69,7 +69,7 @@ module _ {L : Type 0} where
   -- ---- what it does
 
   module _ (holds : L → List Val → Type 0) where
-    may_length : (k : Caller L) (map : List Val) → MayBegin holds k map → length map ≡ objects_of k
+    pub may_length : (k : Caller L) (map : List Val) → MayBegin holds k map → length map ≡ objects_of k
     may_length (Dstm k) map may = may.length
     may_length (Tl2 k) map may = may.length
 

@@ -10,6 +10,7 @@ pub mod Mapping
 pub mod Maps
 pub mod Noting
 pub mod InOrder
+pub mod Laws
 pub mod Ordering
 pub mod Orders
 pub mod Places

@@ -1,6 +1,7 @@
 pub mod Circles
 pub mod Effects
 pub mod Items
+pub mod Laws
 pub mod Maps
 pub mod Ordered
 pub mod Orders
