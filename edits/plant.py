@@ -3,17 +3,22 @@
 
     edits/plant.py --list NAME ..       writes the bodies of these crates, and proves nothing
     edits/plant.py NAME ..              tries each on a copy of the work tree
-      --only WORD                       those of functions whose file or name has this word
+      --only WORD,WORD                  those of functions whose file or name has one of these words
       --shape SHAPE                     those of one shape: twice, more, result, argument, loop, early, option, constant
       --most N                          so many of each crate, evenly spread
+      --seconds N                       a body is not judged where its checks take longer
+      --jobs N                          the jobs of each check
 """
 
 import argparse
+import os
 import re
 import shutil
+import signal
 import subprocess
 import sys
 import tempfile
+import time
 from collections import Counter, namedtuple
 from pathlib import Path
 
@@ -213,19 +218,40 @@ def bodies_of(crate):
     return found
 
 
-class Room:
-    """A copy of the work tree, in which bodies are tried. rt takes there what checks on this machine have kept."""
+def below(name):
+    """Returns the crate and all of the work tree that it stands on."""
+    lines = re.findall(r"(?m)^(\w+)[^:#\n]*:([^#\n]*)", (TOP / "crates.txt").read_text(encoding="utf-8"))
+    on, found = {it: rest.split() for it, rest in lines}, [name]
+    for it in found:
+        found += [that for that in on.get(it, []) if that in on and that not in found]
+    return found
 
-    def __init__(self, folder, name):
+
+class Room:
+    """A copy of the work tree, in which bodies are tried, with the libraries that were built in the work tree."""
+
+    def __init__(self, folder, name, jobs, seconds):
         shutil.copytree(TOP / "crates", f"{folder}/crates", ignore=shutil.ignore_patterns("out", "must-fail"))
+        for built in [*(f"crates/{it}/out/rlib" for it in below(name)), f"crates/{name}/out/incremental"]:
+            if (TOP / built).is_dir():
+                (there := Path(folder) / built).parent.mkdir(exist_ok=True)
+                # (rt tells by the times of files what it has to do again)
+                subprocess.run(["cp", "-a", "--reflink=auto", TOP / built, there], check=True)
         subprocess.run(["cp", TOP / "crates.txt", TOP / "HANDLES", folder], check=True)
         subprocess.run(["git", "init", "-q", folder], check=True)
         self.here, self.crate = TOP / "crates" / name, Path(folder) / "crates" / name
+        self.jobs, self.seconds, self.until = ["--jobs", str(jobs)] if jobs else [], seconds, None
 
     def check(self, *words):
         how = {"cwd": self.crate, "stdout": subprocess.PIPE, "stderr": subprocess.STDOUT, "encoding": "utf-8"}
-        ran = subprocess.run(["rt", "check", *words], **how, errors="replace")
-        return ran.returncode, "\n".join(dict.fromkeys(it.removeprefix("so far: ") for it in ran.stdout.split("\n")))
+        ran = subprocess.Popen(["rt", "check", *words, *self.jobs], **how, errors="replace", start_new_session=True)
+        try:
+            said = ran.communicate(timeout=self.until and max(1, self.until - time.monotonic()))[0]
+        except BaseException:
+            os.killpg(ran.pid, signal.SIGKILL)
+            ran.communicate()
+            raise
+        return ran.returncode, "\n".join(dict.fromkeys(it.removeprefix("so far: ") for it in said.split("\n")))
 
     def drop(self, errors):
         """Takes the declarations of proof files away in which these errors lie. Returns whether there was any."""
@@ -244,8 +270,11 @@ class Room:
         """Returns what became of a body, and by which goals."""
         for file, text in body.texts.items():
             (self.crate / file.relative_to(self.here)).write_text(text, encoding="utf-8")
+        self.until = self.seconds and time.monotonic() + self.seconds
         try:
             return self.judged(["--only", body.only] if body.only else [])
+        except subprocess.TimeoutExpired:
+            return "not judged", "its checks take longer than they may"
         finally:
             for part in [part for part in ("src", "specs", "proofs") if (self.here / part).is_dir()]:
                 shutil.copytree(self.here / part, self.crate / part, dirs_exist_ok=True)
@@ -274,18 +303,19 @@ def main():
     words = argparse.ArgumentParser(description=__doc__, formatter_class=argparse.RawDescriptionHelpFormatter)
     words.add_argument("names", nargs="+", metavar="NAME")
     words.add_argument("--list", action="store_true")
-    for word, default in {"--only": "", "--shape": "", "--most": 1 << 30}.items():
+    for word, default in {"--only": "", "--shape": "", "--most": 1 << 30, "--seconds": 0, "--jobs": 0}.items():
         words.add_argument(word, type=type(default), default=default)
     given = words.parse_args()
     for name, count in [(name, Counter()) for name in given.names]:
-        found = [it for it in bodies_of(TOP / "crates" / name) if given.only in it.note and given.shape in it.shape]
+        found = [it for it in bodies_of(TOP / "crates" / name) if given.shape in it.shape]
+        found = [it for it in found if any(word in it.note for word in given.only.split(","))]
         found = found[:: -(-len(found) // given.most) or 1]
         if given.list:
             print(*(f"{name}: {it.shape}: {it.note}" for it in found), sep="\n")
             print(f"{name}: {len(found)} bodies: {dict(Counter(it.shape for it in found))}")
             continue
         with tempfile.TemporaryDirectory(prefix="plant-") as folder:
-            room = Room(folder, name)
+            room = Room(folder, name, given.jobs, given.seconds)
             if room.check()[0]:
                 sys.exit(f"edits/plant.py: {name} is not proved as it stands")
             for it in found:
