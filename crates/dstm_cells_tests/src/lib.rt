@@ -10,3 +10,5 @@ mod maps;
 mod queues;
 #[cfg(test)]
 mod runs;
+#[cfg(test)]
+mod sets;
