@@ -9,6 +9,8 @@ mod maps;
 #[cfg(test)]
 mod queues;
 #[cfg(test)]
+mod replay;
+#[cfg(test)]
 mod runs;
 #[cfg(test)]
 mod sets;

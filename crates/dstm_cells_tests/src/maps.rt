@@ -8,7 +8,7 @@ use std::collections::BTreeMap;
 use std::test::Fail;
 
 #[derive(Clone, Copy)]
-enum Call {
+pub enum Call {
     Put(u64, u64),
     Get(u64),
     Contains(u64),
@@ -20,7 +20,7 @@ enum Call {
 }
 
 #[derive(Clone, Copy, PartialEq)]
-enum Answer {
+pub enum Answer {
     Placed(Placed<u64>),
     Value(Option<u64>),
     There(bool),
@@ -28,12 +28,12 @@ enum Answer {
 }
 
 #[derive(Clone, Copy)]
-struct Maps {
-    hashed: HashMap<u64>,
-    ordered: OrderedMap<u64>,
+pub struct Maps {
+    pub hashed: HashMap<u64>,
+    pub ordered: OrderedMap<u64>,
 }
 
-fn maps_of(memory: &mut Memory, capacity: u32) -> Result<Maps, Failed> {
+pub fn maps_of(memory: &mut Memory, capacity: u32) -> Result<Maps, Failed> {
     Ok(Maps {
         hashed: HashMap::new(memory, capacity)?,
         ordered: OrderedMap::new(memory, capacity)?,
@@ -74,7 +74,7 @@ fn call_hashed(
 }
 
 // Makes a call on both. They answer alike, or there is no answer.
-fn call_both(tx: &mut Tx<'_>, maps: Maps, call: Call) -> Result<Option<Answer>, Stop> {
+pub fn call_both(tx: &mut Tx<'_>, maps: Maps, call: Call) -> Result<Option<Answer>, Stop> {
     let told = call_ordered(tx, maps.ordered, call)?;
     let same = call_hashed(tx, maps.hashed, call, told)? == told;
     Ok(same.then_some(told))
@@ -152,11 +152,16 @@ fn call_of(drawn: u64) -> Call {
     }
 }
 
-// Puts a key into a map of std that has room for twelve.
-fn place(plain: &mut BTreeMap<u64, u64>, key: u64, value: u64) -> Result<Placed<u64>, GaveUp> {
+// Puts a key into a map of std that is to have room for so many.
+fn place(
+    plain: &mut BTreeMap<u64, u64>,
+    key: u64,
+    value: u64,
+    room: u32,
+) -> Result<Placed<u64>, GaveUp> {
     let placed = match plain.get(&key).copied() {
         Some(had) => Placed::Instead(had),
-        None if plain.len() == 12 => return Ok(Placed::Full),
+        None if plain.len() == room as usize => return Ok(Placed::Full),
         None => Placed::New,
     };
     match plain.insert(key, value) {
@@ -193,10 +198,10 @@ fn popped(plain: &mut BTreeMap<u64, u64>) -> Option<(u64, u64)> {
     first
 }
 
-// What a map of std answers.
-fn expected(plain: &mut BTreeMap<u64, u64>, call: Call) -> Result<Answer, GaveUp> {
+// What a map of std answers that is to have room for so many keys.
+pub fn expected(plain: &mut BTreeMap<u64, u64>, call: Call, room: u32) -> Result<Answer, GaveUp> {
     match call {
-        Call::Put(key, value) => Ok(Answer::Placed(place(plain, key, value)?)),
+        Call::Put(key, value) => Ok(Answer::Placed(place(plain, key, value, room)?)),
         Call::Get(key) => Ok(Answer::Value(plain.get(&key).copied())),
         Call::Contains(key) => Ok(Answer::There(plain.contains_key(&key))),
         Call::Remove(key) => Ok(Answer::Value(plain.remove(&key))),
@@ -217,7 +222,7 @@ fn beside_std(me: &mut Me<'_>, maps: Maps, alloc: Global, seed: &mut u64) -> Res
         } else {
             Call::Pop
         };
-        let wanted = expected(&mut plain, call)?;
+        let wanted = expected(&mut plain, call, 12)?;
         if me.atomically(|tx| call_both(tx, maps, call))? != Some(wanted) {
             return Ok(false);
         }
