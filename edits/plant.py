@@ -26,7 +26,7 @@ TOP = Path(__file__).resolve().parent.parent
 KINDS = ["clause", "open", "elsewhere", "proved", "no source", "not judged"]
 # The texts of the files that a body changes, and the function to check (none where many functions cite what it turns).
 Body = namedtuple("Body", "shape texts only note")
-Function = namedtuple("Function", "name returns begin end")
+Function = namedtuple("Function", "name types returns begin end")
 # The variants of each enum that hold nothing, and the fields that are truth values.
 ENUMS, BOOLS = {}, set()
 NAMES = re.compile(r"has no field|is not in scope|has no `|was not admitted|not checked|is no name")
@@ -64,11 +64,14 @@ def functions_of(mask, text):
     """Returns the functions that have a body and are no tests, with the places between its braces."""
     found = []
     for it in re.finditer(r"\bfn (\w+)", mask):
-        opens = re.compile(r"[{;]").search(mask, close_of(mask, mask.index("(", it.end())))
+        given = mask.index("(", it.end())
+        opens = re.compile(r"[{;]").search(mask, close_of(mask, given))
         if opens and opens[0] == "{" and "#[test]" not in text[: it.start()].rsplit("}", 1)[-1]:
             returns = re.search(r"->\s*([^{]*?)\s*(?:where\b|\{|$)", mask[it.end() : opens.end()])
+            types = [part.split(":", 1) for part in parts_of(mask, mask, given + 1, close_of(mask, given) - 1)]
+            types = {part[0].removeprefix("mut "): part[1].strip() for part in types if len(part) == 2}
             end = close_of(mask, opens.start()) - 1
-            found.append(Function(it[1], returns[1].strip() if returns else "", opens.end(), end))
+            found.append(Function(it[1], types, returns[1].strip() if returns else "", opens.end(), end))
     return found
 
 
@@ -82,6 +85,9 @@ def statements_of(mask, begin, end):
         while at < end and mask[at] not in ";}":
             at = close_of(mask, at) if mask[at] in "([{" else at + 1
         said = mask[start:at].rstrip()
+        before = mask[begin:start].rsplit("\n", 1)[-1]
+        if re.search(r"\b[A-Z]\w*[a-z]\w* \{ $", before) and not re.match(r" *(\} else )?(if|while|for|match)\b", before):
+            continue
         flat = re.sub(r"\([^()]*\)|\{[^{}]*\}", "", said)
         # What stands between the braces of a `match` or of a struct is none.
         is_part = said.count("[") != said.count("]") or re.match(r"\w+\s*[:,](?!:)", said) or said.endswith(",")
@@ -144,7 +150,9 @@ def argument(f, text, mask):
         for n, (one, two) in enumerate(zip(parts, parts[1:])):
             # What is lent, and what is an allocator, seldom has the type of what stands beside it.
             kinds = {re.match(r"&mut|&|(self\.)?alloc$|rt$|", part)[0] for part in (one, two)}
-            for new in [(two, one), (one, one), (two, two)] if one != two and len(kinds) == 1 else []:
+            types = {f.types[part] for part in (one, two) if part in f.types}
+            may_fit = one != two and len(kinds) == 1 and len(types) < 2
+            for new in [(two, one), (one, one), (two, two)] if may_fit else []:
                 yield opens, end, ", ".join([*parts[:n], *new, *parts[n + 2 :]])
 
 
