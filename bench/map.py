@@ -1,12 +1,11 @@
 #!/usr/bin/env python3
 """Measures maps of cells on 1, 2 and 4 threads by both engines, beside a tree under a mutex and in transactions of the
 compiler; see README.md."""
-import argparse
 import os
 import tempfile
 from pathlib import Path
 
-from scale import BY, HERE, THREADS, build, numbers, peers, table, times_of
+from scale import BY, THREADS, build, numbers, peers, reader_of, table, times_of
 
 KINDS = ("ordered", "hash")
 TRANSACTIONS = 960000  # of each program, on all threads together
@@ -22,11 +21,8 @@ def programs(given, folder, looks, threads):
 
 
 def main():
-    reader = argparse.ArgumentParser(description=__doc__)
-    reader.add_argument("--bench", default=HERE.parent / "crates/bench/out/bench", metavar="PATH")
+    reader = reader_of(__doc__)
     reader.add_argument("--looks", default="90,98,100", help="how many transactions of a hundred look a key up")
-    reader.add_argument("--rounds", type=int, default=9)
-    reader.add_argument("--seconds", type=float, default=float("inf"), help="begin no round after so many")
     given = reader.parse_args()
     loads, runs = given.looks.split(","), {}
     with tempfile.TemporaryDirectory(prefix="dstm-bench-") as made:

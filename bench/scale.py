@@ -110,15 +110,21 @@ def table(title, kinds, names, least):
             print(f"| {kind} | {threads} | " + " | ".join(cells) + " |")
 
 
-def main():
-    reader = argparse.ArgumentParser(description=__doc__)
+def reader_of(doc):
+    """Returns the reader of the words that each program takes which measures `bench`."""
+    reader = argparse.ArgumentParser(description=doc)
     reader.add_argument("--bench", default=HERE.parent / "crates/bench/out/bench", metavar="PATH")
+    reader.add_argument("--rounds", type=int, default=9)
+    reader.add_argument("--seconds", type=float, default=float("inf"), help="begin no round after so many")
+    return reader
+
+
+def main():
+    reader = reader_of(__doc__)
     reader.add_argument("--loads", default=LOADS)
     reader.add_argument("--kinds", default=",".join(CELLS), help="the loads over cells")
-    reader.add_argument("--rounds", type=int, default=9)
     reader.add_argument("--median", action="store_true", help="tell medians in place of the least")
     reader.add_argument("--raw", metavar="FILE", help="where all times are to be written")
-    reader.add_argument("--seconds", type=float, default=float("inf"), help="begin no round after so many")
     reader.add_argument("--prototypes", action="append", default=[], metavar="FOLDER",
                         help="where sources of prototypes stand, or what they include; else there are no columns for them")
     given = reader.parse_args()
