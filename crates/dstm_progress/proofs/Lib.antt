@@ -11,6 +11,7 @@ pub mod Bound
 pub mod Prices
 pub mod Own
 pub mod Writers
+pub mod Unread
 pub mod Answers
 pub mod Left
 pub mod Example

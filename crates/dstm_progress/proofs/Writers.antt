@@ -215,7 +215,7 @@ reads_step s {w = w} {n = n} {l = l} f e h a r d = go (due_or_quit s w n l f e i
     go (inl q) = by (λ c. absurd (calm_not_quit q c)) (λ b. absurd (busy_not_quit q b))
     go (inr x) = by (calm_clear s.manager f e h i r x) (busy_opens s.manager f e r x)
 
-call_reads : (s : Shape) {w : Work} {l : LocalState} (g : Lcg) (events : List Event) → ((o : ℕ) →
+pub call_reads : (s : Shape) {w : Work} {l : LocalState} (g : Lcg) (events : List Event) → ((o : ℕ) →
     w ≢ Reading o) → AreAllowed s l events → Obeys (Doing w) s l g events → ReadsNothing w None l →
     ReadsNothing w (newest_of events) (state_after s l events)
 call_reads s g [] h a o r = r
@@ -258,7 +258,7 @@ end_clear s {w = w} {n = (Some e)} {l = l} f h r d i = go (cases_Bool (is_busy e
         (table (cases_Bool (f.missed == 64))))
     go (inr b) = r.clear b i
 
-no_reading : (w : Work) → IsNoReading w → (o : ℕ) → w ≢ Reading o
+pub no_reading : (w : Work) → IsNoReading w → (o : ℕ) → w ≢ Reading o
 no_reading (Reading p) h o q = h
 no_reading (Writing p) h o q = cc
 no_reading (Releasing p) h o q = cc
@@ -272,7 +272,7 @@ pub record Nothing (l : LocalState) : Type 0 where
   pub number : is_some l.number ≡ true
   pub clear : l.phase ≢ Outside → l.resolution ≡ None
 
-call_nothing : {s : Shape} {w : Work} {l : LocalState} {g : Lcg} {events : List Event} → IsNoReading w →
+pub call_nothing : {s : Shape} {w : Work} {l : LocalState} {g : Lcg} {events : List Event} → IsNoReading w →
     AreAllowed s l events → IsCall (Doing w) s l g events → Nothing l → Nothing (state_after s l events)
 call_nothing {s = s} {w = w} {l = l} {g = g} {events = events} h a call n =
     let r = call_reads s g events (no_reading w h) a call.obeys (record {

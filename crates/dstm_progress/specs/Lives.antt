@@ -1,5 +1,5 @@
 -- Laws of callers whose own events are those of calls.
-use Rattle.std.specs.Prelude.{◌≡◌, ◌≢◌, ◌⊎◌, ◌==◌, ◌||◌, ◌∷◌, ℕ, Bool, true, false, List, []}
+use Rattle.std.specs.Prelude.{◌≡◌, ◌≢◌, ◌⊎◌, ◌==◌, ◌||◌, ◌∷◌, ◌++◌, ℕ, Bool, true, false, List, []}
 use Rattle.rand_pcg.specs.Lcg.{Lcg}
 use Rattle.dstm_core.specs.Events.{Event}
 use Rattle.dstm_core.specs.Runs.{Core, local}
@@ -14,8 +14,9 @@ use Rattle.dstm_core.specs.declared.event.Kind.TheVariants.{Begin, Check, Instal
 use Rattle.dstm_managers.specs.declared.decider.Choice.TheVariants as decision
 use Rattle.dstm_order.specs.Calls.{Obeys, effort_of, state_after}
 use Rattle.dstm_order.specs.Efforts.{chosen}
-use Rattle.dstm_order.specs.Tasks.{Work}
-use Rattle.dstm_order.specs.Tasks.Task.{Doing}
+use Rattle.dstm_order.specs.Tasks.{Task, Work}
+use Rattle.dstm_order.specs.Tasks.Task.{Beginning, Doing, Enrolling, Leaving}
+use Rattle.dstm_progress.specs.Oldest.{IsNoReading}
 
 -- A RETRY KEEPS ITS RANK, in every core run in which the caller's own events are those of calls
 abbrev pub RetriesKeep : Type 0
@@ -34,6 +35,30 @@ abbrev pub NoReleases : Type 0
 NoReleases =
     (shape : Shape) (generator : Lcg) (log : List Event) (c : ℕ) → ByCalls KeepsReads shape generator log c →
     Each (λ event before. event.caller ≡ c → event.kind ≢ Release) log
+
+-- a caller that opens no object for reading
+abbrev pub OpensNoneToRead : LocalState → Task → Type 0
+OpensNoneToRead state Enrolling = Unit {0}
+OpensNoneToRead state (Beginning fresh) = Unit {0}
+OpensNoneToRead state Leaving = Unit {0}
+OpensNoneToRead state (Doing work) = IsNoReading work
+
+-- a caller that makes a transaction again until it commits, and where all opens are for writing opens none for reading
+pub record TriesByShape (shape : Shape) (state : LocalState) (task : Task) : Type 0 where
+  pub again : TriesAgain state task
+  pub opens : shape.all_write ≡ true → OpensNoneToRead state task
+
+-- it has recorded no read, and so has found none stale
+pub record HasReadNothing (state : LocalState) : Type 0 where
+  pub reads : state.reads ≡ []
+  pub agreed : state.stale ≡ false
+
+-- NOTHING IS STALE of a caller that opens no object for reading, at any time
+abbrev pub NothingIsStale : Type 0
+NothingIsStale =
+    (shape : Shape) (generator : Lcg) (log : List Event) (c : ℕ) → Core shape log →
+    ByCalls OpensNoneToRead shape generator log c →
+    (later before : List Event) → log ≡ later ++ before → HasReadNothing (local shape before c)
 
 -- A KILL comes only where the manager, asked about that enemy after the rounds waited, chose it
 abbrev pub KillsAreChosen : Type 0
