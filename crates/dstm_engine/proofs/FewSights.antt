@@ -2,7 +2,11 @@
 use Rattle.std.proofs.Common.{◌≡◌, ◌∙◌, ◌⊎◌, ◌+◌, ◌<◌, ◌≤◌, ◌++◌, ◌∷◌, ◌==◌, ◌&&◌, ℕ, Bool, List, [], None, Some, true, false, refl, sym, ap, subst, inl, inr, arith, not}
 use Rattle.std.specs.Prelude.{if◌then◌else◌}
 use Rattle.std.proofs.lemmas.Bool.{and_parts, cases_Bool, cond_both, cond-true, cond-false, eq-eqb, eqb-true}
-use Rattle.dstm_engine.proofs.Base.{Begin, Beginning, Doing, Done, Due, Effort, Event, IsDue, Kind, Lcg, LocalState, LookObj, LookSelf, Obeys, Quit, Rank, Reading, Shape, Stamp, Step, Work, Writing, at_first, count_of, due, effort_of, events_of, given, has_begun, has_ranks, has_stamps, is_open, is_outside, is_spent, just, local, newest_of, next, rises, state_after}
+use Rattle.std.specs.Prelude.{Option}
+use Rattle.dstm_engine.proofs.Base.{Begin, Beginning, Check, Commit, Committing, Doing, Done, Draw, Drawn, Due, Effort, Event, IsDue, Kind, Lcg, LocalState, LookObj, LookSelf, Manager, Obeys, Phase, PutHigh, PutNew, Quit, Rank, Reading, Rechecking, Shape, Stamp, Step, Val, Work, Writing, after, at_first, count_of, due, due_after, effort_of, events_of, given, has_begun, has_ranks, has_stamps, is_open, is_outside, is_spent, just, local, newest_of, next, next_or_first, rises, state_after}
+use Rattle.dstm_core.specs.declared.event.Kind.TheVariants.{Validating as ToValidating}
+use Rattle.dstm_order.specs.Order.{in_checks}
+use Rattle.dstm_order.proofs.Rows.{checking_by, doing_by, put_by, putting_by}
 use Rattle.dstm_core.proofs.Static.{begun_more}
 use Rattle.dstm_engine.specs.Attempts.{completes_pass, is_look_object, is_look_self, looks_at_object}
 use Rattle.dstm_engine.proofs.Rechecking.{NoSelf}
@@ -163,6 +167,146 @@ beginning_looks s fresh l g (e ∷ es) obeys =
           (if rises s.manager && fresh then 0 else m.rank) e obeys.1,
       beginning_looks s fresh l g es obeys.0,
     )
+
+-- ---- the events of a commit
+
+module _ (v : ℕ → Val) where
+  -- what may be due in a commit: it checks only after its Draw
+  abbrev MayCome : LocalState → Due → Type 0
+  MayCome l (Step PutHigh n) = Unit {0}
+  MayCome l (Step PutNew n) = Unit {0}
+  MayCome l (Step ToValidating n) = Unit {0}
+  MayCome l (Step Draw n) = Unit {0}
+  MayCome l (Step Check n) = l.phase ≡ Drawn
+  MayCome l (Step Commit n) = Unit {0}
+  MayCome l (Step Quit n) = Unit {0}
+  MayCome l (Step k n) = ⊥
+  MayCome l Done = Unit {0}
+
+  -- an event of a commit, and the state that it leaves
+  abbrev Came : Kind → LocalState → Type 0
+  Came PutHigh l = Unit {0}
+  Came PutNew l = Unit {0}
+  Came ToValidating l = Unit {0}
+  Came Draw l = l.phase ≡ Drawn
+  Came Check l = l.phase ≡ Drawn
+  Came Commit l = Unit {0}
+  Came Quit l = Unit {0}
+  Came k l = ⊥
+
+  abbrev CameLast : Option Event → LocalState → Type 0
+  CameLast None l = Unit {0}
+  CameLast (Some e) l = Came e.kind l
+
+  next_comes : (k : Kind) (e : Event) (m : Manager) (l : LocalState) (f : Effort) → Came k l →
+      MayCome l (next k e (Committing v) m l f)
+  next_comes PutHigh e m l f came = put_by (MayCome l) (Committing v) l tt tt (λ n. tt) (λ n. tt)
+  next_comes PutNew e m l f came = put_by (MayCome l) (Committing v) l tt tt (λ n. tt) (λ n. tt)
+  next_comes ToValidating e m l f came = tt
+  next_comes Draw e m l f came = checking_by (MayCome l) l tt came
+  next_comes Check e m l f came =
+      subst (λ (p : Phase). MayCome l (in_checks p l)) (sym came) (checking_by (MayCome l) l tt came)
+  next_comes Commit e m l f came = tt
+  next_comes Quit e m l f came = tt
+  next_comes k e m l f came = absurd came
+
+  first_comes : (o : Option Event) (m : Manager) (l : LocalState) (f : Effort) → CameLast o l →
+      MayCome l (next_or_first o (Committing v) m l f)
+  first_comes None m l f came = putting_by (MayCome l) v l tt (λ n. tt) (λ n. tt)
+  first_comes (Some e) m l f came = next_comes e.kind e m l f came
+
+  comes : (s : Shape) (l : LocalState) (e : Event) (d : Due) → MayCome l d → IsDue d e → Came e.kind (after e.kind s l e)
+  comes s l e (Step k n) may is = subst (λ (k : Kind). Came k (after k s l e)) (sym is.0) (by k may)
+    where
+      by : (k : Kind) → MayCome l (Step k n) → Came k (after k s l e)
+      by PutHigh may = tt
+      by PutNew may = tt
+      by ToValidating may = tt
+      by Draw may = refl
+      by Check may = may
+      by Commit may = tt
+      by Quit may = tt
+      by k may = absurd may
+  comes s l e Done may is = absurd is
+
+  no_look : (k : Kind) (l : LocalState) → Came k l → is_look_self k ≡ false
+  no_look PutHigh l came = refl
+  no_look PutNew l came = refl
+  no_look ToValidating l came = refl
+  no_look Draw l came = refl
+  no_look Check l came = refl
+  no_look Commit l came = refl
+  no_look Quit l came = refl
+  no_look k l came = absurd came
+
+  commit_comes : (s : Shape) (l : LocalState) (g : Lcg) (es : List Event) → Obeys (Doing (Committing v)) s l g es →
+      NoSelf es × CameLast (newest_of es) (state_after s l es)
+  commit_comes s l g [] obeys = (tt, tt)
+  commit_comes s l g (e ∷ es) obeys =
+      let before = commit_comes s l g es obeys.0 in
+      let m = state_after s l es in
+      let now : Came e.kind (after e.kind s m e) =
+      comes s m e (due_after (Doing (Committing v)) s l g es)
+      (doing_by (MayCome m) (Committing v) s (newest_of es) m (effort_of s l g es) tt tt
+      (first_comes (newest_of es) s.manager m (effort_of s l g es) before.1)) obeys.1 in
+      ((no_look e.kind (after e.kind s m e) now, before.0), now)
+
+  -- it never looks at its own status
+  pub commit_looks : (s : Shape) (l : LocalState) (g : Lcg) (es : List Event) → Obeys (Doing (Committing v)) s l g es →
+      NoSelf es
+  commit_looks s l g es obeys = (commit_comes s l g es obeys).0
+
+-- ---- the events of a recheck
+
+-- it has not looked at its own status yet; or it has once, and is at its end
+abbrev Rechecks : List Event → Type 0
+Rechecks [] = Unit {0}
+Rechecks (e ∷ es) =
+    (count_kinds is_look_self (e ∷ es) ≡ 0) ⊎ ((ends e.kind ≡ true) × (count_kinds is_look_self (e ∷ es) ≤ 1))
+
+-- after its end it may quit
+after_end : (s : Shape) (x : Event) (l : LocalState) (f : Effort) (e : Event) → ends x.kind ≡ true →
+    IsDue (due (Doing Rechecking) s (Some x) l f) e → e.kind ≡ Quit
+after_end s x l f e end =
+    live_due (λ (d : Due). IsDue d e → e.kind ≡ Quit) (is_outside l.phase) _ (next x.kind x Rechecking s.manager l f)
+    (λ is. absurd is) (λ is. is.0) (by x.kind end)
+  where
+    by : (k : Kind) → ends k ≡ true → IsDue (next k x Rechecking s.manager l f) e → e.kind ≡ Quit
+    by LookSelf end is = absurd is
+    by Rank end is = absurd is
+    by Quit end is = absurd is
+    by k end is = absurd (cc)
+
+recheck_stage : (s : Shape) (l : LocalState) (g : Lcg) (es : List Event) → Obeys (Doing Rechecking) s l g es → Rechecks es
+recheck_stage s l g [] obeys = tt
+recheck_stage s l g (e ∷ es) obeys = by es (recheck_stage s l g es obeys.0) obeys.1 (cases_Bool (is_look_self e.kind))
+  where
+    is_end : (k : Kind) → is_look_self k ≡ true → ends k ≡ true
+    is_end LookSelf look = refl
+    is_end k look = absurd (cc)
+
+    first : (es : List Event) → count_kinds is_look_self es ≡ 0 →
+        (is_look_self e.kind ≡ true) ⊎ (is_look_self e.kind ≡ false) → Rechecks (e ∷ es)
+    first es none (inl look) = inr (is_end e.kind look, let one = counts_it is_look_self e es look in omega (arith, none, one))
+    first es none (inr other) = inl (skips_it is_look_self e es other ∙ none)
+
+    by : (es : List Event) → Rechecks es → IsDue (due_after (Doing Rechecking) s l g es) e →
+        (is_look_self e.kind ≡ true) ⊎ (is_look_self e.kind ≡ false) → Rechecks (e ∷ es)
+    by [] before is look = first [] refl look
+    by (x ∷ es) (inl none) is look = first (x ∷ es) none look
+    by (x ∷ es) (inr ended) is look =
+        let quit = after_end s x (state_after s l (x ∷ es)) (effort_of s l g (x ∷ es)) e ended.0 is in
+        let same = skips_it is_look_self e (x ∷ es) (ap is_look_self quit) in
+        inr (ap ends quit, let few = ended.1 in omega (arith, few, same))
+
+-- it looks at its own status once at most
+pub recheck_looks : (s : Shape) (l : LocalState) (g : Lcg) (es : List Event) → Obeys (Doing Rechecking) s l g es →
+    count_kinds is_look_self es ≤ 1
+recheck_looks s l g [] obeys = omega arith
+recheck_looks s l g (e ∷ es) obeys = elim (recheck_stage s l g (e ∷ es) obeys) [
+  | inl none ↦ omega (arith, none)
+  | inr ended ↦ ended.1
+]
 
 -- ---- what a log counts
 

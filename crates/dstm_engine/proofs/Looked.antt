@@ -2,7 +2,7 @@
 use Rattle.std.proofs.Common.{◌≡◌, ◌∙◌, ◌+◌, ◌≤◌, ◌++◌, ℕ, List, None, true, false, refl, sym, ap, subst, arith}
 use Rattle.std.specs.Prelude.{Bool, IfErr, IsSome, IsTrue, OnOk, Option, Result, is_some}
 use Rattle.std.proofs.lemmas.Bool.{cond_both}
-use Rattle.dstm_engine.proofs.Base.{Again, Doing, Event, Home, IsPastOf, LocalState, Reading, Releasing, Shape, Val, Work, Writing, count_of, events_of, is_open, local}
+use Rattle.dstm_engine.proofs.Base.{Again, Committing, Doing, Event, Home, IsPastOf, LocalState, Reading, Rechecking, Releasing, Shape, Val, Work, Writing, count_of, events_of, is_open, local}
 use Rattle.dstm_machines.proofs.Own.{own_later}
 use Rattle.dstm_engine.specs.Attempts.{completes_pass, is_look_object, is_look_self, looks, looks_at_object, sights}
 use Rattle.dstm_engine.specs.Callers.{Called, begun_log, held, is_opened, shape_of, state}
@@ -12,7 +12,7 @@ use Rattle.dstm_engine.proofs.LettingGo.{by_open}
 use Rattle.dstm_engine.proofs.Opens.{none_of}
 use Rattle.dstm_engine.proofs.Released.{no_self}
 use Rattle.dstm_engine.proofs.BegunThere.{begun_there, count_later}
-use Rattle.dstm_engine.proofs.FewSights.{beginning_looks, count_kinds, looks_more, none_looks, none_yet, open_looks, sights_more}
+use Rattle.dstm_engine.proofs.FewSights.{beginning_looks, commit_looks, count_kinds, looks_more, none_looks, none_yet, open_looks, recheck_looks, sights_more}
 
 -- no more sights were added than looks at an object
 abbrev pub AddsFew : {L : Type 0} → (k n : Called L) → Type 0
@@ -64,6 +64,22 @@ module _ {L : Type 0} (k n : Called L) (home : n.home ≡ k.home) (number : n.nu
         ≤ count_of looks_at_object (shape_of n) log n.number (state n).begun)
         (count_later looks_at_object (shape_of n) past.later k.log n.number (state n).begun))
 
+    -- a sight is a look at the own status
+    sights_by : (events : List Event) → events_of k.number n.log ≡ events ++ events_of k.number k.log →
+        sights n ≤ sights k + count_kinds is_look_self events
+    sights_by events own =
+        let s = shape_of n in
+        let c = n.number in
+        let i = (state n).begun in
+        let later : events_of c past.later ≡ events =
+        own_later c k.log n.log events past (subst (λ (x : ℕ). events_of x n.log ≡ events ++ events_of x k.log) (sym number) own) in
+        let now : sights n ≤ count_of completes_pass s k.log c i + count_kinds is_look_self events =
+        in_log (λ (log : List Event). count_of completes_pass s log c i ≤ count_of completes_pass s k.log c i + count_kinds is_look_self events)
+        (subst (λ (es : List Event). count_of completes_pass s (past.later ++ k.log) c i
+        ≤ count_of completes_pass s k.log c i + count_kinds is_look_self es) later (sights_more s c i past.later k.log)) in
+        let before = same_count completes_pass in
+        omega arith
+
     -- events that look at the own status no more often than at an object
     few_by : (events : List Event) → events_of k.number n.log ≡ events ++ events_of k.number k.log →
         count_kinds is_look_self events ≤ count_kinds is_look_object events → AddsFew k n
@@ -74,16 +90,12 @@ module _ {L : Type 0} (k n : Called L) (home : n.home ≡ k.home) (number : n.nu
         let later : events_of c past.later ≡ events =
         own_later c k.log n.log events past (subst (λ (x : ℕ). events_of x n.log ≡ events ++ events_of x k.log) (sym number) own) in
         let new : (local s (past.later ++ k.log) c).begun ≡ i = ap (λ (log : List Event). (local s log c).begun) past.whole in
-        let sights_now : sights n ≤ count_of completes_pass s k.log c i + count_kinds is_look_self events =
-        in_log (λ (log : List Event). count_of completes_pass s log c i ≤ count_of completes_pass s k.log c i + count_kinds is_look_self events)
-        (subst (λ (es : List Event). count_of completes_pass s (past.later ++ k.log) c i
-        ≤ count_of completes_pass s k.log c i + count_kinds is_look_self es) later (sights_more s c i past.later k.log)) in
+        let sights_now = sights_by events own in
         let looks_now : count_of looks_at_object s k.log c i + count_kinds is_look_object events ≤ looks n =
         in_log (λ (log : List Event). count_of looks_at_object s k.log c i + count_kinds is_look_object events
         ≤ count_of looks_at_object s log c i)
         (subst (λ (es : List Event). count_of looks_at_object s k.log c i + count_kinds is_look_object es
         ≤ count_of looks_at_object s (past.later ++ k.log) c i) later (looks_more s c i past.later k.log same_begun new)) in
-        let sights_then = same_count completes_pass in
         let looks_then = same_count looks_at_object in
         omega arith
 
@@ -116,6 +128,22 @@ pub release_few : {L : Type 0} {holds : L → List Val → Type 0} {k n : Called
 release_few {k = k} {n = n} attempt {o = o} p =
     let none = none_looks p.events (no_self o (shape_of k) (state k) k.generator p.events p.call.obeys).0 in
     few_by k n p.same.0 p.same.1 p.seen attempt p.events p.own (omega arith)
+
+-- nor does a commit
+pub commit_few : {L : Type 0} {holds : L → List Val → Type 0} {k n : Called L} {a : Option Again} →
+    begun_log n.number n.log ≡ begun_log k.number k.log → {v : ℕ → Val} → Performs holds (Doing (Committing v)) k n a →
+    AddsFew k n
+commit_few {k = k} {n = n} attempt {v = v} p =
+    let none = none_looks p.events (commit_looks v (shape_of k) (state k) k.generator p.events p.call.obeys) in
+    few_by k n p.same.0 p.same.1 p.seen attempt p.events p.own (omega arith)
+
+-- and a recheck adds one sight at most
+pub recheck_one : {L : Type 0} {holds : L → List Val → Type 0} {k n : Called L} {a : Option Again} →
+    begun_log n.number n.log ≡ begun_log k.number k.log → Performs holds (Doing Rechecking) k n a → sights n ≤ sights k + 1
+recheck_one {k = k} {n = n} attempt p =
+    let one = recheck_looks (shape_of k) (state k) k.generator p.events p.call.obeys in
+    let more = sights_by k n p.same.0 p.same.1 p.seen attempt p.events p.own in
+    omega arith
 
 -- ---- an attempt that begins
 

@@ -2,12 +2,13 @@
 use Rattle.std.proofs.Common.{◌≡◌, ◌∙◌, ◌⊎◌, ◌∷◌, ◌&&◌, ◌+◌, Bool, true, false, not, List, [], None, ap, arith, inl, inr, refl, subst, sym}
 use Rattle.std.specs.Prelude.{Option, if◌then◌else◌}
 use Rattle.std.proofs.lemmas.Bool.{cases_Bool, cond_both}
-use Rattle.dstm_engine.proofs.Base.{Begin, Beginning, Due, Event, IsDue, Kind, Lcg, LocalState, Obeys, Quit, Rank, Shape, Stamp, Step, TriesAgain, Val, after, has_begun, has_ranks, has_stamps, in_beginning, is_new, is_outside, is_spent, just, local, newest_of, rises, state_after}
+use Rattle.dstm_engine.proofs.Base.{Begin, Beginning, Due, Event, IsDue, Kind, Lcg, LocalState, Obeys, Quit, Rank, Shape, Stamp, Step, Val, after, has_begun, has_ranks, has_stamps, in_beginning, is_new, is_outside, is_spent, just, local, newest_of, rises, state_after}
 use Rattle.dstm_progress.proofs.OwnEvents.{after_own}
 use Rattle.dstm_order.specs.Order.{is_begin}
 use Rattle.dstm_engine.specs.Callers.{Called, shape_of, state}
 use Rattle.dstm_engine.specs.Transactions.{SpentFrom}
 use Rattle.dstm_engine.specs.Makes.{Makes}
+use Rattle.dstm_progress.specs.Lives.{TriesByShape}
 use Rattle.dstm_engine.proofs.AddingUp.{makes_one}
 use Rattle.dstm_progress.proofs.Keeping.{not_begun, still_new}
 
@@ -60,8 +61,9 @@ module _ {L : Type 0} (holds : L → List Val → Type 0) (k n : Called L) (fres
       ∙ ap (local (shape_of k) n.log) s.steps.same.1
       ∙ after_own (shape_of k) k.number n.log k.log s.steps.events s.steps.own
 
-  pub spent_makes : Makes TriesAgain k n
-  spent_makes = makes_one TriesAgain holds (Beginning k.fresh) k n None fresh s.steps
+  pub spent_makes : Makes (TriesByShape (shape_of k)) k n
+  spent_makes =
+      makes_one (TriesByShape (shape_of k)) holds (Beginning k.fresh) k n None (record { again = fresh; opens = λ all. tt }) s.steps
 
   pub spent_fresh : n.fresh ≡ is_new (state n)
   spent_fresh =
