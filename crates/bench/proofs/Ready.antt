@@ -1,6 +1,6 @@
 -- Callers stay ready.
 use Rattle.std.proofs.Common.{◌≡◌, ◌∙◌, ℕ, List, Result, Ok, Err, ap, refl, sym}
-use Rattle.std.specs.Prelude.{IfErr, IfOk}
+use Rattle.std.specs.Prelude.{Bool, IfErr, IfOk, Option}
 use Rattle.bench.specs.Ready.{IsReady}
 use Rattle.dstm_model.specs.declared.value.Val.{Val}
 use Rattle.dstm_tables.specs.Callers.{home_of, law_of}
@@ -50,8 +50,9 @@ module _ {L : Type 0} where
     }
 
     -- it goes on however an attempt ends
-    pub on_either : (is_right : List Val → List Val → Type 0) (k n : Caller L) (r : Result ℕ Ended) →
-        IfOk r (Did holds is_right k n) → IfErr r (EndsBy holds k n) → GoesOn holds k n
-    on_either is_right k n (Ok number) did ends = did.made.on
-    on_either is_right k n (Err Again) did ends = ends.made.on
-    on_either is_right k n (Err Spent) did ends = ends.on
+    pub on_either : (is_right : List Val → List Val → Type 0) (leaves : (ℕ → Option Val) → (ℕ → Bool) → Type 0)
+        (k n : Caller L) (r : Result ℕ Ended) → IfOk r (Did holds is_right leaves k n) → IfErr r (EndsBy holds k n) →
+        GoesOn holds k n
+    on_either is_right leaves k n (Ok number) did ends = did.made.on
+    on_either is_right leaves k n (Err Again) did ends = ends.made.on
+    on_either is_right leaves k n (Err Spent) did ends = ends.on

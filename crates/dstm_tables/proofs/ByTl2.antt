@@ -1,5 +1,7 @@
 -- What an attempt leaves by TL2, in the words of both engines.
 use Rattle.std.proofs.Common.{◌≡◌, ◌∙◌, ◌<◌, ◌≤◌, ◌==◌, ◌⊎◌, ◌∷◌, ◌++◌, ℕ, List, [], Bool, None, Some, true, false, inl, inr, refl, sym, ap, subst, arith, Option, nat_lt, not}
+use Rattle.std.specs.Prelude.{if◌then◌else◌}
+use Rattle.dstm_mem.specs.Memory.{value_in}
 use Rattle.std.proofs.lemmas.Bool.{cases_eq, cond_both, ltb-false}
 use Rattle.dstm_model.specs.declared.value.Val.{Val}
 use Rattle.dstm_machines.proofs.Runs as runs
@@ -15,8 +17,9 @@ use Rattle.dstm_tl2.proofs.Enrolment.{named}
 use Rattle.dstm_tl2_words.specs.Seats.{Home}
 use Rattle.dstm_tl2_order.specs.declared.again.TlAgain.{TlAgain}
 use Rattle.dstm_tl2_order.proofs.Draws.{valid_commits}
-use Rattle.dstm_tl2_engine.specs.Attempts.{Settles, done}
-use Rattle.dstm_tl2_engine.specs.Callers.{TlCalled, state, table_of_caller}
+use Rattle.dstm_model.specs.Answers.{Committed}
+use Rattle.dstm_tl2_engine.specs.Attempts.{Commits, Settles, done}
+use Rattle.dstm_tl2_engine.specs.Callers.{TlCalled, handed, held, is_opened, state, table_of_caller}
 use Rattle.dstm_tl2_engine.specs.Endings.{Attempts}
 use Rattle.dstm_tl2_engine.specs.Makes.{Makes}
 use Rattle.dstm_tl2_engine.proofs.Living.{attempts_are_calls, makes_one}
@@ -27,7 +30,7 @@ use Rattle.dstm_tl2_engine.specs.Transactions.{SpentFrom}
 use Rattle.dstm_tables.specs.declared.tables.Caller.TheVariants.{Tl2}
 use Rattle.dstm_tables.specs.declared.tables.Table.TheVariants as table
 use Rattle.dstm_tables.specs.Callers.{AtRest}
-use Rattle.dstm_tables.specs.Tries.{Did, GoesOn, IsSpentFrom, OneMore, WasKept}
+use Rattle.dstm_tables.specs.Tries.{Did, GoesOn, IsLeftBy, IsSpentFrom, OneMore, WasKept}
 
 -- ---- of every run
 
@@ -77,6 +80,24 @@ number_below t (e ∷ es) c run has = go (cases_eq e.caller c) (number_below t e
     go (inl q) ih = subst (λ n. n < t.callers) q run.1.caller
     go (inr q) ih = ih (ap (λ (l : LocalState). l.number) (sym (runs.local_other tl2 t es e c q)) ∙ has)
 
+module _ {L : Type 0} where
+  -- what a run has left, where it is committed, is its entry
+  tl2_left : {leaves : (ℕ → Option Val) → (ℕ → Bool) → Type 0} (ran n : TlCalled L) (drawn : ℕ) → Commits ran n drawn →
+      leaves (held ran) (is_opened ran) → {by : Committed} {before : List Committed} → done n ≡ by ∷ before →
+      IsLeftBy leaves by.entry
+  tl2_left ran n drawn commits left {by = by} is =
+      let same : by ≡ record { caller = ran.number; number = drawn; entry = commits.entry } =
+      let newest = commits.done in cc in
+      record {
+        held = held ran;
+        opened = is_opened ran;
+        left = left;
+        reads = λ o. ap (λ (c : Committed). value_in c.entry.reads o) same ∙ commits.reads o;
+        writes = λ o unopened.
+            ap (λ (c : Committed). value_in c.entry.writes o) same ∙ commits.writes o
+            ∙ ap (λ (b : Bool). if b then handed ran o else None) unopened;
+      }
+
 module _ {L : Type 0} {holds : L → List Val → Type 0} where
   -- ---- of a caller
 
@@ -105,24 +126,30 @@ module _ {L : Type 0} {holds : L → List Val → Type 0} where
       record { on = tl2_on k n rest a.same.0 a.same.1 a.past a.run a.free (attempts_are_calls holds k n again a); begun = a.begun }
 
   -- it has committed
-  pub tl2_did : (is_right : List Val → List Val → Type 0) (k n : TlCalled L) (number : ℕ) → AtRest holds (Tl2 k) →
-      Attempts holds k n None → Settles holds is_right k n number → Did holds is_right (Tl2 k) (Tl2 n) number
-  tl2_did is_right k n number rest a s =
+  pub tl2_did : (is_right : List Val → List Val → Type 0) (leaves : (ℕ → Option Val) → (ℕ → Bool) → Type 0)
+      (k ran n : TlCalled L) (number drawn : ℕ) → AtRest holds (Tl2 k) → Attempts holds k n None →
+      Settles holds is_right k n number → Commits ran n drawn → leaves (held ran) (is_opened ran) →
+      Did holds is_right leaves (Tl2 k) (Tl2 n) number
+  tl2_did is_right leaves k ran n number drawn rest a s commits left =
       let made = tl2_more k n None rest a in record {
         made = made;
         committed = valid_commits (table_of_caller n) n.log n.number made.on.rest.run.run.run (a.valid refl);
         entry = s.entry;
         newest = s.done;
         right = s.right;
+        left = tl2_left ran n drawn commits left s.done;
+        sighted = tt;
       }
 
-  pub tl2_kept : (k n : TlCalled L) (again : TlAgain) → AtRest holds (Tl2 k) → Attempts holds k n (Some again) → IsLeft n →
-      done n ≡ done k → WasKept holds (Tl2 k) (Tl2 n)
-  tl2_kept k n again rest a left same = record {
+  pub tl2_kept : (rechecks : ℕ) (k n : TlCalled L) (again : TlAgain) → AtRest holds (Tl2 k) → Attempts holds k n (Some again) → IsLeft n →
+      done n ≡ done k → WasKept holds rechecks (Tl2 k) (Tl2 n)
+  tl2_kept rechecks k n again rest a left same = record {
     made = tl2_more k n (Some again) rest a;
     disturbed = left.disturbed;
+    aborted = tt;
     others = left.others;
     same_done = same;
+    sighted = tt;
   }
 
   pub tl2_spent : (k n : TlCalled L) → AtRest holds (Tl2 k) → SpentFrom holds k n → IsSpentFrom holds (Tl2 k) (Tl2 n)

@@ -9,11 +9,11 @@ use Rattle.dstm_progress.proofs.OwnEvents.{whole_state}
 use Rattle.dstm_managers.specs.Choices.{started}
 use Rattle.dstm_order.specs.Calls.{state_after}
 use Rattle.dstm_order.specs.Made.{AreMade, events_in}
-use Rattle.dstm_order.specs.Retries.{TriesAgain}
 use Rattle.dstm_words.specs.Seats.{Home}
 use Rattle.dstm_engine.proofs.AddingUp.{makes_both}
 use Rattle.dstm_engine.specs.Callers.{Called, shape_of, state}
 use Rattle.dstm_engine.specs.Makes.{Makes}
+use Rattle.dstm_progress.specs.Lives.{TriesByShape}
 use Rattle.dstm_machines.proofs.Own as machine
 use Rattle.dstm_tl2.specs.Rules as tl2_rules
 use Rattle.dstm_tl2.specs.Runs as tl2_runs
@@ -36,19 +36,20 @@ use Rattle.dstm_model.specs.declared.value.Val.{Val}
 module _ {L : Type 0} where
   -- from a caller that had made nothing, with the generator of a seed
   pub from_first : (seed : ℕ) (u n : Called L) → events_of u.number u.log ≡ [] →
-      u.generator ≡ (started (shape_of u).manager seed).generator → Makes TriesAgain u n → Makes TriesAgain (at_first seed n) n
+      u.generator ≡ (started (shape_of u).manager seed).generator → Makes (TriesByShape (shape_of u)) u n →
+      Makes (TriesByShape (shape_of n)) (at_first seed n) n
   from_first seed u n none seeded m = record {
     calls = m.calls;
     own = m.own ∙ ap (λ (es : List Event). events_in m.calls ++ es) none;
     made = subst Made (sym shape)
-        (subst (λ (g : Lcg). AreMade (shape_of u) first g TriesAgain m.calls) seeded
-        (subst (λ (l : LocalState). AreMade (shape_of u) l u.generator TriesAgain m.calls) new m.made));
+        (subst (λ (g : Lcg). AreMade (shape_of u) first g (TriesByShape (shape_of u)) m.calls) seeded
+        (subst (λ (l : LocalState). AreMade (shape_of u) l u.generator (TriesByShape (shape_of u)) m.calls) new m.made));
     generator = rw (m.generator, new, seeded, ← shape) refl;
     same = (refl, refl);
   }
     where
       Made : Shape → Type 0
-      Made s = AreMade s first (started s.manager seed).generator TriesAgain m.calls
+      Made s = AreMade s first (started s.manager seed).generator (TriesByShape s) m.calls
 
       shape : shape_of n ≡ shape_of u
       shape = ap (λ (h : Home L). h.terms.shape) m.same.0
@@ -75,7 +76,7 @@ module _ {L : Type 0} where
   -- a caller that goes on
   pub came_on : {holds : L → List Val → Type 0} (seed : ℕ) (k n : Caller L) → GoesOn holds k n → CameByCalls seed k → CameByCalls seed n
   came_on seed (Dstm k) (Dstm n) on came =
-      from_first seed (at_first seed k) n refl refl (makes_both TriesAgain (at_first seed k) k n came on.calls)
+      from_first seed (at_first seed k) n refl refl (makes_both (TriesByShape (shape_of k)) (at_first seed k) k n came on.calls)
   came_on seed (Tl2 k) (Tl2 n) on came =
       tl2_from_first (tl2_first k) n refl (living.makes_both LocksItsWrites (tl2_first k) k n came on.calls)
   came_on seed k n on came = absurd on.seen

@@ -76,7 +76,9 @@ module _ {L : Type 0} where
         spent = subst (attempts.IsSpent shape) (sym same);
         committed = by_dstm.committed shape start c old new run inside past own;
         disturbed = by_dstm.disturbed shape start c old new run inside past own;
+        aborted = by_dstm.aborted shape start c old new run inside past own;
         given_up = by_dstm.given_up shape start c old new run inside past own;
+        sighted = by_dstm.sighted shape start c old new run inside past own;
         saw = by_dstm.same_sight shape start c old new run inside past own;
         calls = λ seed was. record { calls = was.calls; own = own ∙ was.own; made = was.made };
       }
@@ -93,7 +95,9 @@ module _ {L : Type 0} where
         spent = λ spent. ap (λ (l : LocalState). l.begun) same ∙ spent;
         committed = λ i some few was. rw (← past.whole) (committed_stays t past.later old c i was);
         disturbed = λ i was. rw (← past.whole) (disturbed_stays t past.later old c i was);
+        aborted = λ i some few was. tt;
         given_up = λ rechecks i was. one_same ended.draws t new old c i own ∙ was;
+        sighted = λ more i few. tt;
         saw = λ i. same_reads t new old c i own;
         calls = λ seed was. record { calls = was.calls; own = own ∙ was.own; made = was.made };
       }

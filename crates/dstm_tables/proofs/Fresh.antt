@@ -17,7 +17,6 @@ use Rattle.dstm_machines.proofs.Runs.{local-events_of}
 use Rattle.dstm_opacity.specs.Committed.{has_committed, is_commit}
 use Rattle.dstm_opacity.proofs.Stays.{call_adds_none}
 use Rattle.dstm_progress.proofs.Ends.{callers_in_range}
-use Rattle.dstm_progress.specs.Lives.{lets_go}
 use Rattle.rand_pcg.specs.Lcg.{Lcg}
 use Rattle.dstm_order.specs.Calls.{IsCall}
 use Rattle.dstm_order.specs.Tasks.Task.{Enrolling}
@@ -26,9 +25,10 @@ use Rattle.dstm_words.specs.Seats.{Home, IsRunOf}
 use Rattle.dstm_engine.specs.Attempts.{done}
 use Rattle.dstm_engine.specs.Callers.{Called, is_running, shape_of, start_of, state}
 use Rattle.dstm_engine.specs.Makes.{count_let_go, let_go}
+use Rattle.dstm_progress.specs.Lives.{TriesByShape, lets_go}
 use Rattle.dstm_engine.specs.Tables.{Enrols, Founding, unnumbered}
 use Rattle.dstm_engine.proofs.AddingUp.{makes_one}
-use Rattle.dstm_order.specs.Retries.{TriesAgain, is_new}
+use Rattle.dstm_order.specs.Retries.{is_new}
 use Rattle.dstm_tables.specs.declared.tables.Caller.TheVariants.{Dstm}
 use Rattle.dstm_tables.specs.Callers.{AtRest, CameByCalls}
 use Rattle.dstm_tables.proofs.Calls.{from_first}
@@ -134,7 +134,8 @@ module _ {L : Type 0} {holds : L → List Val → Type 0} where
     pub fresh_came : CameByCalls seed (Dstm k)
     fresh_came =
         let u : Called L = record (unnumbered f seed) { number = k.number } in
-        from_first seed u k none_there refl (makes_one TriesAgain holds Enrolling u k None tt enrols.steps)
+        from_first seed u k none_there refl
+        (makes_one (TriesByShape (shape_of u)) holds Enrolling u k None (record { again = tt; opens = λ all. tt }) enrols.steps)
 
   -- a caller that was just made has installed nothing
   pub fresh_installed : (f g : Founding L) (seed : ℕ) (k : Called L) → Enrols holds f g seed k →

@@ -1,6 +1,8 @@
 -- What an attempt leaves by DSTM, from the clauses of the engine's calls.
-use Rattle.std.proofs.Common.{◌≡◌, ◌∙◌, ◌+◌, ◌-◌, ◌*◌, ◌<◌, ◌++◌, ℕ, List, [], Some, true, sym, ap, subst, arith, is_some, eq-eqb, eqb-true}
-use Rattle.std.specs.Prelude.{IfSome, Option}
+use Rattle.std.proofs.Common.{◌≡◌, ◌∙◌, ◌+◌, ◌-◌, ◌*◌, ◌<◌, ◌≤◌, ◌++◌, ◌∷◌, ℕ, Bool, List, [], None, Some, true, sym, ap, subst, arith, is_some, eq-eqb, eqb-true}
+use Rattle.std.specs.Prelude.{IfSome, Option, if◌then◌else◌}
+use Rattle.dstm_mem.specs.Memory.{value_in}
+use Rattle.dstm_model.specs.Answers.{Committed}
 use Rattle.dstm_model.specs.declared.value.Val.{Val}
 use Rattle.dstm_core.specs.Events.{Event}
 use Rattle.dstm_core.specs.Runs.{local}
@@ -15,19 +17,37 @@ use Rattle.dstm_progress.proofs.OwnEvents.{after_own, allowed_own}
 use Rattle.dstm_progress.proofs.Sound.{number_stays, sound}
 use Rattle.dstm_order.specs.declared.again.Again.{Again}
 use Rattle.dstm_words.specs.Seats.{Home, IsRunOf}
-use Rattle.dstm_engine.specs.Attempts.{Settles, done}
-use Rattle.dstm_engine.specs.Callers.{Called, shape_of, state}
+use Rattle.dstm_engine.specs.Attempts.{Commits, Settles, done, looks, sights}
+use Rattle.dstm_engine.specs.Callers.{Called, handed, held, is_opened, shape_of, state}
 use Rattle.dstm_engine.specs.Endings.{Attempts}
 use Rattle.dstm_engine.specs.Outcomes.{IsLeft, Promises}
 use Rattle.dstm_engine.specs.Transactions.{SpentFrom}
-use Rattle.dstm_tables.specs.Attempts.{HasCommitted}
+use Rattle.dstm_tables.specs.Attempts.{HasCommitted, WasAborted}
 use Rattle.dstm_tables.specs.declared.tables.Caller.TheVariants.{Dstm}
 use Rattle.dstm_tables.specs.declared.tables.Table.TheVariants as table
 use Rattle.dstm_tables.specs.Callers.{AtRest}
-use Rattle.dstm_tables.specs.Tries.{Did, IsSpentFrom, OneMore, WasKept}
+use Rattle.dstm_tables.specs.Tries.{Did, IsLeftBy, IsSpentFrom, OneMore, WasKept}
 use Rattle.dstm_engine.proofs.Attempting.{attempt_makes}
 use Rattle.dstm_engine.proofs.Anew.{new_after}
 use Rattle.dstm_engine.proofs.Spending.{spent_fresh, spent_makes}
+
+module _ {L : Type 0} where
+  -- what a run has left, where it is committed, is its entry
+  left_by : {leaves : (ℕ → Option Val) → (ℕ → Bool) → Type 0} (ran n : Called L) (drawn : ℕ) → Commits ran n drawn →
+      leaves (held ran) (is_opened ran) → {by : Committed} {before : List Committed} → done n ≡ by ∷ before →
+      IsLeftBy leaves by.entry
+  left_by ran n drawn commits left {by = by} is =
+      let same : by ≡ record { caller = ran.number; number = drawn; entry = commits.entry } =
+      let newest = commits.done in cc in
+      record {
+        held = held ran;
+        opened = is_opened ran;
+        left = left;
+        reads = λ o. ap (λ (c : Committed). value_in c.entry.reads o) same ∙ commits.reads o;
+        writes = λ o unopened.
+            ap (λ (c : Committed). value_in c.entry.writes o) same ∙ commits.writes o
+            ∙ ap (λ (b : Bool). if b then handed ran o else None) unopened;
+      }
 
 module _ {L : Type 0} {holds : L → List Val → Type 0} where
   -- ---- the caller's number
@@ -65,16 +85,20 @@ module _ {L : Type 0} {holds : L → List Val → Type 0} where
       eq-eqb (word s n.log (StatusWord (n.number * s.attempts + ((state n).begun - 1)))) 4
       (ap (λ (o : Option ℕ). word s n.log (StatusWord (or_zero o * s.attempts + ((state n).begun - 1)))) (sym number) ∙ now)
 
-  -- one whose status is aborted and stays so has not
+  -- one whose status is aborted and stays so was aborted
+  pub was_aborted : (n : Called L) → AtRest holds (Dstm n) → StaysAt (shape_of n) n.log n.number (code_of status.Aborted) →
+      WasAborted (shape_of n) n.log n.number (state n).begun
+  was_aborted n rest stays =
+      let s = shape_of n in
+      ap (λ (o : Option ℕ). word s n.log (StatusWord (or_zero o * s.attempts + ((state n).begun - 1)))) (sym rest.enrolled)
+      ∙ stays [] rest.run.run.core
+
+  -- and has not committed
   pub not_committed : (n : Called L) → AtRest holds (Dstm n) → StaysAt (shape_of n) n.log n.number (code_of status.Aborted) →
       HasCommitted (shape_of n) n.log n.number (state n).begun → ⊥
   not_committed n rest stays committed =
       let s = shape_of n in
-      let now : word s n.log (StatusWord (or_zero (state n).number * s.attempts + ((state n).begun - 1))) ≡ 5 =
-      stays [] rest.run.run.core in
-      let here : word s n.log (StatusWord (n.number * s.attempts + ((state n).begun - 1))) ≡ 5 =
-      ap (λ (o : Option ℕ). word s n.log (StatusWord (or_zero o * s.attempts + ((state n).begun - 1)))) (sym rest.enrolled)
-      ∙ now in
+      let here : word s n.log (StatusWord (n.number * s.attempts + ((state n).begun - 1))) ≡ 5 = was_aborted n rest stays in
       let four = eqb-true (word s n.log (StatusWord (n.number * s.attempts + ((state n).begun - 1)))) 4 committed in
       omega arith
 
@@ -103,27 +127,34 @@ module _ {L : Type 0} {holds : L → List Val → Type 0} where
       }
 
   -- an attempt whose status is committed and stays so
-  pub did : (is_right : List Val → List Val → Type 0) (k n : Called L) (number : ℕ) → AtRest holds (Dstm k) →
+  pub did : (is_right : List Val → List Val → Type 0) (leaves : (ℕ → Option Val) → (ℕ → Bool) → Type 0)
+      (k ran n : Called L) (number drawn : ℕ) → AtRest holds (Dstm k) →
       OneMore holds (Dstm k) (Dstm n) → StaysAt (shape_of n) n.log n.number (code_of status.Committed) →
-      Settles holds is_right k n number → Did holds is_right (Dstm k) (Dstm n) number
-  did is_right k n number rest made stays s = record {
+      Settles holds is_right k n number → Commits ran n drawn → leaves (held ran) (is_opened ran) → sights n ≤ looks n →
+      Did holds is_right leaves (Dstm k) (Dstm n) number
+  did is_right leaves k ran n number drawn rest made stays s commits left few = record {
     made = made;
     committed = has_committed n made.on.rest.run made.on.rest.enrolled stays;
     entry = s.entry;
     newest = s.done;
     right = λ map size lawful agrees. s.right map (size ∙ rest.run.run.values) lawful agrees;
+    left = left_by ran n drawn commits left s.done;
+    sighted = omega (arith, few);
   }
 
   pub was_kept : (k n : Called L) (again : Again) → AtRest holds (Dstm k) → Attempts holds k n (Some again) → done n ≡ done k →
-      WasKept holds (Dstm k) (Dstm n)
-  was_kept k n again rest a same =
+      sights n ≤ looks n → WasKept holds 0 (Dstm k) (Dstm n)
+  was_kept k n again rest a same few =
       let left : IsLeft n again × Promises n again =
       subst (λ o. IfSome o (λ (x : Again). IsLeft n x × Promises n x)) (sym a.answers) a.ended.left in
+      let one = one_more k n (Some again) rest a in
       record {
-        made = one_more k n (Some again) rest a;
+        made = one;
         disturbed = left.0.disturbed;
+        aborted = was_aborted n one.on.rest left.0.aborted;
         others = left.0.callers;
         same_done = same;
+        sighted = omega (arith, few);
       }
 
   pub is_spent_from : (k n : Called L) → AtRest holds (Dstm k) → SpentFrom holds k n → IsSpentFrom holds (Dstm k) (Dstm n)

@@ -2,7 +2,10 @@
 use Rattle.std.proofs.Common.{◌≡◌, ◌∙◌, ◌⊎◌, ◌<◌, ◌≤◌, ℕ, List, refl, ap, subst, inl, inr, not}
 use Rattle.dstm_machines.proofs.Pasts.{past_past, past_self}
 use Rattle.dstm_engine.proofs.AddingUp.{makes_both, makes_none}
-use Rattle.dstm_order.specs.Retries.{TriesAgain}
+use Rattle.dstm_core.specs.declared.shape.Shape.{Shape}
+use Rattle.dstm_engine.specs.Callers.{shape_of}
+use Rattle.dstm_engine.specs.Makes.{Makes}
+use Rattle.dstm_progress.specs.Lives.{TriesByShape}
 use Rattle.dstm_tables.proofs.StayingByDstm as staying
 use Rattle.dstm_words.specs.declared.terms.Terms as core_terms
 use Rattle.dstm_tl2.specs.Rules.{Event}
@@ -18,9 +21,9 @@ use Rattle.dstm_tables.specs.declared.tables.Caller.{Caller}
 use Rattle.dstm_tables.specs.declared.tables.Caller.TheVariants.{Dstm, Tl2}
 use Rattle.dstm_tables.specs.declared.tables.Round.{Round}
 use Rattle.dstm_tables.specs.declared.tables.Round.TheVariants as round
-use Rattle.dstm_tables.specs.Callers.{AtRest, begun, round_of}
+use Rattle.dstm_tables.specs.Callers.{AtRest, begun, number_of, round_of}
 use Rattle.dstm_tables.specs.Tries.{WasNotWasted, GoesOn, WentByCalls}
-use Rattle.dstm_tables.specs.Tells.{IsPast, SameOwn, attempts_of, lets_go}
+use Rattle.dstm_tables.specs.Tells.{HasFewSights, IsPast, SameOwn, WasGivenUpAfter, WasSighted, attempts_of, lets_go}
 use Rattle.dstm_tables.proofs.ByTl2.{begun_le}
 use Rattle.dstm_model.specs.declared.value.Val.{Val}
 
@@ -47,15 +50,22 @@ module _ {L : Type 0} where
   own_trans c a b d one two = absurd one
 
   calls_none : (k : Caller L) → WentByCalls k k
-  calls_none (Dstm k) = makes_none TriesAgain k
+  calls_none (Dstm k) = makes_none (TriesByShape (shape_of k)) k
   calls_none (Tl2 k) = living.makes_none LocksItsWrites k
 
   calls_both : (k n m : Caller L) → WentByCalls k n → WentByCalls n m → WentByCalls k m
-  calls_both (Dstm k) (Dstm n) (Dstm m) one two = makes_both TriesAgain k n m one two
+  calls_both (Dstm k) (Dstm n) (Dstm m) one two =
+      makes_both (TriesByShape (shape_of k)) k n m one
+      (subst (λ (s : Shape). Makes (TriesByShape s) n m) (ap (λ h. h.terms.shape) one.same.0) two)
   calls_both (Tl2 k) (Tl2 n) (Tl2 m) one two = living.makes_both LocksItsWrites k n m one two
   calls_both (Dstm k) (Dstm n) (Tl2 m) one two = absurd two
   calls_both (Tl2 k) (Tl2 n) (Dstm m) one two = absurd two
   calls_both k n m one two = absurd one
+
+  -- an attempt that was given up was made sure of so many times more at most
+  pub few_given : (rechecks : ℕ) (r : Round L) (c i : ℕ) → WasGivenUpAfter rechecks r c i → HasFewSights rechecks r c i
+  few_given rechecks (round.Dstm r) c i was = was.no_more
+  few_given rechecks (round.Tl2 r) c i was = tt
 
   -- ---- what a table was told stays
 
@@ -99,24 +109,41 @@ module _ {L : Type 0} where
 
     -- ---- what became of its attempts stays so
 
-    tl2_later : (k n : TlCalled L) (i : ℕ) → GoesOn holds (Tl2 k) (Tl2 n) → WasNotWasted (Tl2 k) i → WasNotWasted (Tl2 n) i
-    tl2_later k n i on was = by (there (λ t c. ended.HasCommitted t k.log c i ⊎ ended.Disturbed t k.log c i) was)
+    tl2_later : (rechecks : ℕ) (k n : TlCalled L) (i : ℕ) → GoesOn holds (Tl2 k) (Tl2 n) → WasNotWasted rechecks (Tl2 k) i →
+        WasNotWasted rechecks (Tl2 n) i
+    tl2_later rechecks k n i on was =
+        by (there (λ t c. (ended.HasCommitted t k.log c i × Unit {0})
+        ⊎ (ended.Disturbed t k.log c i × Unit {0} × Unit {0})) was)
       where
         -- as this log tells, on the table as n has it
         there : (P : Tl2Table → ℕ → Type 0) → P (table_of k.home.terms) k.number → P (table_of n.home.terms) n.number
         there P is = rw (on.seen.0, on.number) is
 
-        by : ended.HasCommitted (table_of n.home.terms) k.log n.number i ⊎ ended.Disturbed (table_of n.home.terms) k.log n.number i →
-            WasNotWasted (Tl2 n) i
+        by : (ended.HasCommitted (table_of n.home.terms) k.log n.number i × Unit {0})
+            ⊎ (ended.Disturbed (table_of n.home.terms) k.log n.number i × Unit {0} × Unit {0}) → WasNotWasted rechecks (Tl2 n) i
         by (inl committed) =
-            inl (subst (λ (log : List Event). ended.HasCommitted (table_of n.home.terms) log n.number i) on.seen.1.whole
-            (committed_stays (table_of n.home.terms) on.seen.1.later k.log n.number i committed))
+            inl (
+              subst (λ (log : List Event). ended.HasCommitted (table_of n.home.terms) log n.number i) on.seen.1.whole
+                  (committed_stays (table_of n.home.terms) on.seen.1.later k.log n.number i committed.0),
+              tt,
+            )
         by (inr disturbed) =
-            inr (subst (λ (log : List Event). ended.Disturbed (table_of n.home.terms) log n.number i) on.seen.1.whole
-            (disturbed_stays (table_of n.home.terms) on.seen.1.later k.log n.number i disturbed))
+            inr (
+              subst (λ (log : List Event). ended.Disturbed (table_of n.home.terms) log n.number i) on.seen.1.whole
+                  (disturbed_stays (table_of n.home.terms) on.seen.1.later k.log n.number i disturbed.0),
+              tt,
+              tt,
+            )
 
-    pub was_later : (k n : Caller L) (i : ℕ) → GoesOn holds k n → 0 < i → i ≤ attempts_of (round_of k) → WasNotWasted k i →
-        WasNotWasted n i
-    was_later (Dstm k) (Dstm n) i on some few was = staying.was_later k n i on some few was
-    was_later (Tl2 k) (Tl2 n) i on some few was = tl2_later k n i on was
-    was_later k n i on some few was = absurd on.seen
+    pub was_later : (rechecks : ℕ) (k n : Caller L) (i : ℕ) → GoesOn holds k n → 0 < i → i ≤ attempts_of (round_of k) →
+        WasNotWasted rechecks k i → WasNotWasted rechecks n i
+    was_later rechecks (Dstm k) (Dstm n) i on some few was = staying.was_later k n i on some few rechecks was
+    was_later rechecks (Tl2 k) (Tl2 n) i on some few was = tl2_later rechecks k n i on was
+    was_later rechecks k n i on some few was = absurd on.seen
+
+    -- how often it was made sure of stays too
+    pub sighted_later : (rechecks : ℕ) (k n : Caller L) (i : ℕ) → GoesOn holds k n → 0 < i → i ≤ attempts_of (round_of k) →
+        WasSighted rechecks (round_of k) (number_of k) i → WasSighted rechecks (round_of n) (number_of n) i
+    sighted_later rechecks (Dstm k) (Dstm n) i on some few was = staying.sighted_later k n i on some few rechecks was
+    sighted_later rechecks (Tl2 k) (Tl2 n) i on some few was = inr (tt, tt)
+    sighted_later rechecks k n i on some few was = absurd on.seen

@@ -10,11 +10,19 @@ use Rattle.dstm_core.specs.declared.shape.Shape.{Shape}
 use Rattle.dstm_core.specs.Histories.{seen, will_of}
 use Rattle.dstm_core.specs.Runs.{local}
 use Rattle.dstm_core.specs.State.{LocalState}
+use Rattle.dstm_core.specs.Traces.{word}
+use Rattle.dstm_core.specs.Words.{code_of}
+use Rattle.dstm_core.specs.Words.Word.{StatusWord}
+use Rattle.dstm_core.specs.declared.status.Status.TheVariants as status
 use Rattle.dstm_engine.specs.Attempts.{completes_pass, looks_at_object}
 
 -- attempt i of caller c has committed: its status is committed in the end
 abbrev pub HasCommitted : Shape → List Event → (c i : ℕ) → Type 0
 HasCommitted shape log c i = will_of shape log (c * shape.attempts + (i - 1)) ≡ true
+
+-- it was aborted: so is its status in the end
+abbrev pub WasAborted : Shape → List Event → (c i : ℕ) → Type 0
+WasAborted shape log c i = word shape log (StatusWord (c * shape.attempts + (i - 1))) ≡ code_of status.Aborted
 
 abbrev pub is_quit : Kind → Bool
 is_quit Quit = true
@@ -31,11 +39,16 @@ seen_last shape start log (event ∷ before) c i =
     then seen shape start log before c
     else seen_last shape start log before c i
 
+-- the attempt had at most so many sights beside one for each look at an object
+abbrev pub HasFewSights : (more : ℕ) → Shape → List Event → (c i : ℕ) → Type 0
+HasFewSights more shape log c i =
+    count_of completes_pass shape log c i ≤ count_of looks_at_object shape log c i + more
+
 -- the attempt was given up after it had made sure so many times that what it had read stands, and not more often: it had so
 -- many sights at least, and at most so many beside one for each look at an object
 pub record WasGivenUpAfter (rechecks : ℕ) (shape : Shape) (log : List Event) (c i : ℕ) : Type 0 where
   pub sights : rechecks ≤ count_of completes_pass shape log c i
-  pub no_more : count_of completes_pass shape log c i ≤ count_of looks_at_object shape log c i + rechecks
+  pub no_more : HasFewSights rechecks shape log c i
   pub quit : 1 ≤ count_of quits shape log c i
 
 -- the caller has no attempt left, or too few locators for another one

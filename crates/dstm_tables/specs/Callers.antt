@@ -5,7 +5,8 @@ use Rattle.dstm_model.specs.Answers.{Committed}
 use Rattle.dstm_engine.specs.Callers as dstm
 use Rattle.dstm_managers.specs.Choices.{started}
 use Rattle.dstm_engine.specs.Makes.{Makes}
-use Rattle.dstm_order.specs.Retries.{TriesAgain, is_new}
+use Rattle.dstm_progress.specs.Lives.{TriesByShape}
+use Rattle.dstm_order.specs.Retries.{is_new}
 use Rattle.dstm_tl2_engine.specs.Callers as tl2
 use Rattle.dstm_tl2_engine.specs.Makes as tl2_makes
 use Rattle.dstm_tl2_order.specs.Made.{LocksItsWrites}
@@ -59,10 +60,10 @@ module _ {L : Type 0} where
   abbrev pub tl2_first : tl2.TlCalled L → tl2.TlCalled L
   tl2_first k = record k { log = [] }
 
-  -- It has come by calls: under DSTM each transaction again until it committed, from the generator of this seed on, under TL2
-  -- each locks no more than is written.
+  -- It has come by calls: under DSTM each transaction again until it committed, as its table wants opens, from the generator of
+  -- this seed on; under TL2 each locks no more than is written.
   abbrev pub CameByCalls : ℕ → Caller L → Type 0
-  CameByCalls seed (Dstm k) = Makes TriesAgain (at_first seed k) k
+  CameByCalls seed (Dstm k) = Makes (TriesByShape k.home.terms.shape) (at_first seed k) k
   CameByCalls seed (Tl2 k) = tl2_makes.Makes LocksItsWrites (tl2_first k) k
 
   abbrev pub done : Caller L → List Committed

@@ -5,7 +5,7 @@ use Rattle.dstm_model.specs.declared.value.Val.{Val}
 use Rattle.dstm_model.specs.Answers.{NumbersFall, by_caller}
 use Rattle.dstm_model.specs.Map.{IsLegal}
 use Rattle.dstm_tables.specs.declared.tables.Round.{Round}
-use Rattle.dstm_tables.specs.Tells.{ByCalls, HasCommitted, IsPast, IsRun, IsSpent, SameOwn, SightsAgree, WasDisturbed, WasGivenUpAfter, all_done, begun_of, callers_of, committed_of, done_of, entries_of, let_go_by, seen_of, start_of}
+use Rattle.dstm_tables.specs.Tells.{ByCalls, HasCommitted, HasFewSights, IsPast, IsRun, IsSpent, SameOwn, SightsAgree, WasAborted, WasDisturbed, WasGivenUpAfter, all_done, begun_of, callers_of, committed_of, done_of, entries_of, let_go_by, seen_of, start_of}
 
 module _ {L : Type 0} where
   -- what is known of caller c in one log is so in another one
@@ -16,7 +16,9 @@ module _ {L : Type 0} where
     pub spent : IsSpent before c → IsSpent after c
     pub committed : (i : ℕ) → 0 < i → i ≤ begun_of before c → HasCommitted before c i → HasCommitted after c i
     pub disturbed : (i : ℕ) → WasDisturbed before c i → WasDisturbed after c i
+    pub aborted : (i : ℕ) → 0 < i → i ≤ begun_of before c → WasAborted before c i → WasAborted after c i
     pub given_up : (rechecks i : ℕ) → WasGivenUpAfter rechecks before c i → WasGivenUpAfter rechecks after c i
+    pub sighted : (more i : ℕ) → HasFewSights more before c i → HasFewSights more after c i
     pub saw : (i : ℕ) → seen_of after c i ≡ seen_of before c i
     pub calls : (seed : ℕ) → ByCalls seed before c → ByCalls seed after c
 

@@ -1,6 +1,6 @@
 -- What is known of a table by its log, by its engine. Attempt i of a caller is the one after whose beginning it has begun
 -- i: its attempts are numbered from 1.
-use Rattle.std.specs.Prelude.{◌≡◌, ℕ, ◌≤◌, Bool, true, false, not, List, ◌∷◌, ◌++◌, map, reverse, Some}
+use Rattle.std.specs.Prelude.{◌≡◌, ◌⊎◌, ℕ, ◌≤◌, Bool, true, false, not, List, ◌∷◌, ◌++◌, map, reverse, Some}
 use Rattle.dstm_model.specs.declared.value.Val.{Val}
 use Rattle.dstm_model.specs.Answers.{Committed}
 use Rattle.dstm_model.specs.Map.{Agrees, Entry, state_after}
@@ -11,10 +11,10 @@ use Rattle.dstm_core.specs.Histories as core_histories
 use Rattle.dstm_core.specs.Runs as core
 use Rattle.dstm_opacity.specs.Committed as core_answers
 use Rattle.dstm_engine.specs.Makes.{count_let_go}
+use Rattle.dstm_progress.specs.Lives.{TriesByShape}
 use Rattle.dstm_managers.specs.Choices.{started}
 use Rattle.dstm_order.specs.Made as made
 use Rattle.dstm_order.specs.Order as order
-use Rattle.dstm_order.specs.Retries.{TriesAgain}
 use Rattle.dstm_progress.specs.Disturbed as causes
 use Rattle.dstm_words.specs.Seats as words
 use Rattle.dstm_words.specs.declared.terms.Terms as core_terms
@@ -156,6 +156,11 @@ module _ {L : Type 0} where
   HasCommitted (Dstm r) c i = attempts.HasCommitted r.terms.shape r.log c i
   HasCommitted (Tl2 r) c i = tl2_causes.HasCommitted (tl2_sharing.table_of r.terms) r.log c i
 
+  -- it was aborted, as its status under DSTM tells; under TL2 it has none
+  abbrev pub WasAborted : Round L → (c i : ℕ) → Type 0
+  WasAborted (Dstm r) c i = attempts.WasAborted r.terms.shape r.log c i
+  WasAborted (Tl2 r) c i = Unit {0}
+
   -- others disturbed it
   abbrev pub WasDisturbed : Round L → (c i : ℕ) → Type 0
   WasDisturbed (Dstm r) c i = causes.Disturbed r.terms.shape r.log c i
@@ -166,6 +171,17 @@ module _ {L : Type 0} where
   WasGivenUpAfter rechecks (Dstm r) c i = attempts.WasGivenUpAfter rechecks r.terms.shape r.log c i
   WasGivenUpAfter rechecks (Tl2 r) c i = tl2_causes.HasNoDraw (tl2_sharing.table_of r.terms) r.log c i
 
+  -- it made sure that what it had read stands by its opens and its commit, and at most so many times beside: under DSTM it had
+  -- so few sights; under TL2 nothing else makes sure of it
+  abbrev pub HasFewSights : (more : ℕ) → Round L → (c i : ℕ) → Type 0
+  HasFewSights more (Dstm r) c i = attempts.HasFewSights more r.terms.shape r.log c i
+  HasFewSights more (Tl2 r) c i = Unit {0}
+
+  -- it committed, made sure of by its opens and its commit alone; or it was aborted, made sure of so many times more at most
+  abbrev pub WasSighted : (rechecks : ℕ) → Round L → (c i : ℕ) → Type 0
+  WasSighted rechecks round c i =
+      (HasCommitted round c i × HasFewSights 0 round c i) ⊎ (WasAborted round c i × HasFewSights rechecks round c i)
+
   -- what it has read: under DSTM what its newest sight covers
   abbrev pub seen_of : Round L → (c i : ℕ) → List (ℕ × Val)
   seen_of (Dstm r) c i = attempts.seen_last r.terms.shape r.terms.start.value.items r.log r.log c i
@@ -174,9 +190,11 @@ module _ {L : Type 0} where
   -- ---- the calls of a caller
 
   -- Caller c's own events are those of calls that obey the order of steps, one after the other from nothing: under DSTM with the
-  -- generator of this seed, each transaction again until it committed, under TL2 each locks no more than is written.
+  -- generator of this seed, each transaction again until it committed, and none opens for reading where all opens are for
+  -- writing; under TL2 each locks no more than is written.
   abbrev pub ByCalls : (seed : ℕ) → Round L → ℕ → Type 0
-  ByCalls seed (Dstm r) c = made.ByCalls TriesAgain r.terms.shape (started r.terms.shape.manager seed).generator r.log c
+  ByCalls seed (Dstm r) c =
+      made.ByCalls (TriesByShape r.terms.shape) r.terms.shape (started r.terms.shape.manager seed).generator r.log c
   ByCalls seed (Tl2 r) c = tl2_made.ByCalls LocksItsWrites (tl2_sharing.table_of r.terms) r.log c
 
   -- ---- what attempts saw

@@ -16,7 +16,8 @@ pub enum Ended {
     Spent,
 }
 
-/// Makes one attempt: begins it, runs the body once, and commits. It answers the number that it drew, and lets no read go.
+/// Makes one attempt: begins it, runs the body once, and commits. It answers the number that it drew, lets no read go, and makes
+/// sure that its reads stand no more often than its opens and its commit do.
 pub fn attempt<L: Law, B: Body<L>>(
     caller: &mut Caller<L>,
     table: &Table<L>,
@@ -25,7 +26,7 @@ pub fn attempt<L: Law, B: Body<L>>(
     requires table { home_of caller.old ≡ table.now }
     requires law { B.law body.old ≡ law_of caller.old }
     requires rest { AtRest L.holds caller.old }
-    ensures done { IfOk result (Did L.holds (B.right body.new) caller.old caller.new) }
+    ensures done { IfOk result (Did L.holds (B.right body.new) (B.leaves body.new) caller.old caller.new) }
     ensures ended { IfErr result (EndsBy L.holds caller.old caller.new) }
     ensures keeps { let_go caller.new ≡ let_go caller.old }
     ensures task { B.task body.new ≡ B.task body.old }
