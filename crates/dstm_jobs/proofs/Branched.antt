@@ -32,7 +32,8 @@ use Rattle.dstm_order.specs.Calls.{IsCall, Obeys, state_after}
 use Rattle.dstm_order.specs.Order.{IsDue, just}
 use Rattle.dstm_order.specs.Order.Due.{Done}
 use Rattle.dstm_order.specs.Tasks.{Task}
-use Rattle.dstm_order.specs.Tasks.Task.{Leaving, Beginning}
+use Rattle.dstm_order.specs.Tasks.Task.{Beginning, Doing, Leaving}
+use Rattle.dstm_order.specs.Tasks.Work.{Committing}
 use Rattle.dstm_core.specs.Counts.{is_begin}
 use Rattle.dstm_machines.proofs.Attempts.{log_parts}
 use Rattle.dstm_machines.proofs.Own.{own_later}
@@ -57,7 +58,8 @@ use Rattle.dstm_jobs.specs.declared.style.Style.TheVariants.{Branches}
 use Rattle.dstm_jobs.specs.declared.trying.Finished.{Finished}
 use Rattle.dstm_jobs.specs.Rechecks.{HasRechecked}
 use Rattle.dstm_engine.specs.Makes.{Makes}
-use Rattle.dstm_order.specs.Retries.{TriesAgain, is_new}
+use Rattle.dstm_progress.specs.Lives.{TriesByShape}
+use Rattle.dstm_order.specs.Retries.{is_new}
 use Rattle.dstm_engine.proofs.AddingUp.{makes_both, makes_one}
 use Rattle.dstm_engine.proofs.Attempting.{told_makes}
 use Rattle.dstm_engine.proofs.Anew.{new_committed, same_aborted}
@@ -67,11 +69,12 @@ use Rattle.dstm_jobs.specs.Tables.{AtRest, OneMore, WasKept}
 use Rattle.dstm_jobs.specs.Jobs.{DidJob, StoodAt}
 use Rattle.dstm_jobs.specs.Law.{keeps}
 use Rattle.dstm_jobs.proofs.Doing as doing
-use Rattle.dstm_jobs.proofs.Inside.{KeepsOutOf, dstm_inside}
+use Rattle.dstm_jobs.proofs.Inside.{KeepsOutOf}
 use Rattle.dstm_engine.proofs.BegunThere.{begun_there, count_later}
 use Rattle.dstm_engine.proofs.FewSights.{count_kinds, none_looks, sights_more}
+use Rattle.dstm_engine.proofs.Looked.{commit_few, few_since}
 use Rattle.dstm_engine.proofs.Rechecking.{NoSelf}
-use Rattle.dstm_tables.proofs.Made.{did, not_committed, numbered, run_there}
+use Rattle.dstm_tables.proofs.Made.{did, not_committed, numbered, run_there, was_aborted}
 use Rattle.dstm_tables.proofs.SeenLast.{seen_last-agrees, seen_last-skips}
 use Rattle.dstm_jobs.proofs.Rechecking.{runs}
 use Rattle.dstm_tables.proofs.StayingByDstm.{in_range}
@@ -95,13 +98,16 @@ module _ {k b t u x : Called StoreLaw} (a : made.Tried keeps k b t u x) where
 
   -- the calls on it, where the caller is told by them
   pub calls_by : AtRest (Dstm k) → (n : Called StoreLaw) → n.home ≡ t.home → n.number ≡ t.number → n.began ≡ t.began →
-      begun_log n.number n.log ≡ begun_log t.number t.log → IsTold n → Makes TriesAgain k n
+      begun_log n.number n.log ≡ begun_log t.number t.log → IsTold n → Makes (TriesByShape (shape_of k)) k n
   calls_by rest n nh nn nb log told =
-      makes_both TriesAgain k b n (makes_one TriesAgain keeps (Beginning k.fresh) k b None rest.right a.begins.steps)
+      makes_both (TriesByShape (shape_of k)) k b n
+      (makes_one (TriesByShape (shape_of k)) keeps (Beginning k.fresh) k b None (record { again = rest.right; opens = λ all. tt })
+      a.begins.steps)
       (told_makes b n (nh ∙ ap (λ (p : TxPlace StoreLaw). p.home) a.place) (nn ∙ ap (λ (p : TxPlace StoreLaw). p.number) a.place)
       (a.begins.at_begin ∙ sym (ap (λ (p : TxPlace StoreLaw). p.began) a.place) ∙ sym log)
       (ap (λ (x : Called StoreLaw). x.generator) a.begins.caller
-      ∙ sym (nb ∙ ap (λ (p : TxPlace StoreLaw). p.generator) a.place ∙ ap (λ (x : Called StoreLaw). x.began) a.begins.caller)) told)
+      ∙ sym (nb ∙ ap (λ (p : TxPlace StoreLaw). p.generator) a.place ∙ ap (λ (x : Called StoreLaw). x.began) a.begins.caller)) told
+      (shape_of k) (ap (λ (h : Home StoreLaw). h.terms.shape) a.begins.steps.same.0))
 
   -- its transaction goes on
   pub stays_same : t.fresh ≡ false
@@ -114,7 +120,7 @@ module _ {k b t u x : Called StoreLaw} (a : made.Tried keeps k b t u x) where
   -- the caller as the attempt left it
   pub one_more_by : (n : Called StoreLaw) → n.home ≡ t.home → n.number ≡ t.number →
       begun_log n.number n.log ≡ begun_log t.number t.log → IsRunOf keeps n.home.terms n.log → is_live n ≡ false →
-      Makes TriesAgain k n → (1 ≤ (state n).begun → n.fresh ≡ is_new (state n)) → OneMore (Dstm k) (Dstm n)
+      Makes (TriesByShape (shape_of k)) k n → (1 ≤ (state n).begun → n.fresh ≡ is_new (state n)) → OneMore (Dstm k) (Dstm n)
   one_more_by n nh nn log run over calls fresh = record {
     on = record {
       home = ap table.Dstm at_home;
@@ -154,24 +160,26 @@ module _ {k b t u x : Called StoreLaw} (a : made.Tried keeps k b t u x) where
       begun = rw (begun_there (shape_of n) n.number n.log, ← there, same_home, same_number, a.begins.begun) refl
 
   -- others kept it from its commit
-  was_kept_by : (n : Called StoreLaw) (again : Again) → OneMore (Dstm k) (Dstm n) → IsLeft n again → done n ≡ done t →
-      WasKept (Dstm k) (Dstm n)
-  was_kept_by n again one left same = record {
+  was_kept_by : (rechecks : ℕ) (n : Called StoreLaw) (again : Again) → OneMore (Dstm k) (Dstm n) → IsLeft n again →
+      done n ≡ done t → sights n ≤ looks n + rechecks → WasKept rechecks (Dstm k) (Dstm n)
+  was_kept_by rechecks n again one left same few = record {
     made = one;
     disturbed = left.disturbed;
+    aborted = was_aborted n one.on.rest left.aborted;
     others = left.callers;
     same_done = same ∙ made.same_done keeps k b t a.reference a.before a.table a.at a.begins a.place;
+    sighted = few;
   }
 
   -- the same of an attempt that had been left as it was given up
-  was_kept_dead : (n : Called StoreLaw) (again : Again) → AtRest (Dstm k) → IsTold t → n ≡ t → IsLeft t again →
-      IsRunOf keeps t.home.terms n.log → WasKept (Dstm k) (Dstm n)
-  was_kept_dead n again rest told same left run =
+  was_kept_dead : (rechecks : ℕ) (n : Called StoreLaw) (again : Again) → AtRest (Dstm k) → IsTold t → n ≡ t → IsLeft t again →
+      IsRunOf keeps t.home.terms n.log → sights t ≤ looks t + rechecks → WasKept rechecks (Dstm k) (Dstm n)
+  was_kept_dead rechecks n again rest told same left run few =
       let there = ap (λ (x : Called StoreLaw). x.log) same in
       let run_t = subst (IsRunOf keeps t.home.terms) there run in
       let one = one_more_by t refl refl refl run_t left.over (calls_by rest t refl refl refl refl told)
       (aborted_fresh t refl run_t left.aborted) in
-      subst (λ (x : Called StoreLaw). WasKept (Dstm k) (Dstm x)) (sym same) (was_kept_by t again one left refl)
+      subst (λ (x : Called StoreLaw). WasKept rechecks (Dstm k) (Dstm x)) (sym same) (was_kept_by rechecks t again one left refl few)
 
   -- it ran the first open branch of the job, and committed
   did_branch : (layout : Layout) (job : Job) (finished : Finished) (n : Called StoreLaw) → AtRest (Dstm k) →
@@ -182,10 +190,9 @@ module _ {k b t u x : Called StoreLaw} (a : made.Tried keeps k b t u x) where
       DidJob Branches layout job (Dstm k) (Dstm n) finished
   did_branch layout job finished n rest law nh one commits right out sighted =
       doing.did_branch layout job (Dstm k) (Dstm n) finished law
-      (λ by is. dstm_inside layout job.ops t n finished.number commits out by _ is)
-      (did _ k n finished.number rest one commits.status
+      (did _ (KeepsOutOf layout job.ops) k t n finished.number finished.number rest one commits.status
       (made.settled keeps k b t a.reference a.before a.table a.at a.begins a.place _ n finished.number nh
-      (rw (← nh) one.on.rest.run) commits right)) sighted
+      (rw (← nh) one.on.rest.run) commits right) commits out (made.few_by_opens sighted)) sighted
 
 -- ---- from the clauses of its last call
 
@@ -216,22 +223,23 @@ module _ {k b t n x : Called StoreLaw} (a : made.Tried keeps k b t n x) (rest : 
       (ap (λ (x : Called StoreLaw). x.home) kept) (one_committed kept log run told finished.number commits) commits
       right out sighted)
 
-  -- it did not commit
-  pub was_left : (again : Again) → n ≡ record t { log = n.log; left = Some again } →
-      begun_log n.number n.log ≡ begun_log t.number t.log → IsRunOf keeps t.home.terms n.log → IsTold n →
-      IsLeft n again → done n ≡ done t → WasKept (Dstm k) (Dstm x)
-  was_left again kept log run told left same =
+  -- its commit failed
+  pub was_left : (rechecks : ℕ) {v : ℕ → Val} (again : Again) → n ≡ record t { log = n.log; left = Some again } →
+      begun_log n.number n.log ≡ begun_log t.number t.log → Performs keeps (Doing (Committing v)) t n (Some again) → IsTold n →
+      IsLeft n again → done n ≡ done t → sights t ≤ looks t → WasKept rechecks (Dstm k) (Dstm x)
+  was_left rechecks again kept log commit told left same few =
       let nh : n.home ≡ t.home = ap (λ (x : Called StoreLaw). x.home) kept in
       let nn : n.number ≡ t.number = ap (λ (x : Called StoreLaw). x.number) kept in
-      let there = run_there t n nh run in
-      rw a.end (was_kept_by a n again (one_more_by a n nh nn log there left.over (calls_by a rest n nh nn
+      let there = run_there t n nh commit.run in
+      let sighted = few_since t n few (commit_few log commit) in
+      rw a.end (was_kept_by a rechecks n again (one_more_by a n nh nn log there left.over (calls_by a rest n nh nn
       (ap (λ (x : Called StoreLaw). x.began) kept) log told) (aborted_fresh a n
-      (ap (λ (x : Called StoreLaw). x.fresh) kept) there left.aborted)) left same)
+      (ap (λ (x : Called StoreLaw). x.fresh) kept) there left.aborted)) left same (omega (arith, sighted)))
 
   -- it had been left as it was given up
-  pub was_dead : (again : Again) → IsTold t → n ≡ t → IsLeft t again → IsRunOf keeps t.home.terms n.log →
-      WasKept (Dstm k) (Dstm x)
-  was_dead again told same left run = rw a.end (was_kept_dead a n again rest told same left run)
+  pub was_dead : (rechecks : ℕ) (again : Again) → IsTold t → n ≡ t → IsLeft t again → IsRunOf keeps t.home.terms n.log →
+      sights t ≤ looks t + rechecks → WasKept rechecks (Dstm k) (Dstm x)
+  was_dead rechecks again told same left run few = rw a.end (was_kept_dead a rechecks n again rest told same left run few)
 
 -- ---- an attempt that was given up at its job
 
@@ -409,9 +417,8 @@ stood_at rechecks layout job k b t u n some few one same law size rechecked left
         rechecks at_most;
     quit = quit_counts (shape_of n) (start_of n) n.number u.log n.log u.generator left.events core caller left.seen own call run;
   };
-  uncommitted =
-      not_committed n one.on.rest
-      (aborts u n left (rechecked.newest some).run rechecked.live (let b = one.begun in omega arith));
+  uncommitted = not_committed n one.on.rest stays;
+  aborted = was_aborted n one.on.rest stays;
   blocked = λ map held stands agrees. (right map (admitted map held stands agrees)).blocked refl held stands;
   unused = λ reads. unused_by k b u n begins home number log (unopened reads) left;
   same_done = same;
@@ -423,6 +430,9 @@ stood_at rechecks layout job k b t u n some few one same law size rechecked left
 
     core : Core (shape_of n) n.log
     core = one.on.rest.run.run.core
+
+    stays : StaysAt (shape_of n) n.log n.number (code_of status.Aborted)
+    stays = aborts u n left (rechecked.newest some).run rechecked.live (let b = one.begun in omega arith)
 
     caller : n.number < (shape_of n).callers
     caller = (in_range n one.on.rest).0

@@ -3,10 +3,10 @@ use Rattle.std.proofs.Common.{◌⊎◌, ◌<◌, ◌≤◌, ℕ, sym, subst, in
 use Rattle.dstm_workload.specs.declared.workload.Job.{Job}
 use Rattle.dstm_workload.specs.declared.workload.Workload.{Workload}
 use Rattle.dstm_tables.specs.Laws.{StaysIn}
-use Rattle.dstm_tables.specs.Tells.{HasCommitted, IsPast, SameOwn, WasDisturbed, begun_of, callers_of}
+use Rattle.dstm_tables.specs.Tells.{HasCommitted, HasFewSights, IsPast, SameOwn, WasDisturbed, begun_of, callers_of}
 use Rattle.dstm_tables.proofs.Closing.{stays_in}
 use Rattle.dstm_jobs.specs.Answers.{IsBlockedWith}
-use Rattle.dstm_jobs.specs.Jobs.{HadToStop, NoneWasted, Waited}
+use Rattle.dstm_jobs.specs.Jobs.{HadToStop, NoneWasted, Waited, rechecks_in}
 use Rattle.dstm_jobs.specs.Law.{keeps}
 use Rattle.dstm_jobs.specs.Tables.{IsRun, Round}
 
@@ -29,10 +29,13 @@ module _ (workload : Workload) (job : Option Job) (a b : Round) (c : ℕ) (run :
   none_at_close none i some few =
       let before : i ≤ begun_of a c = subst (λ (n : ℕ). i ≤ n) stays.begun few in by before (none i some before)
     where
-      by : i ≤ begun_of a c → HasCommitted a c i ⊎ (WasDisturbed a c i ⊎ Waited workload job a c i) →
-          HasCommitted b c i ⊎ (WasDisturbed b c i ⊎ Waited workload job b c i)
-      by before (inl was) = inl (stays.committed i some before was)
-      by before (inr (inl was)) = inr (inl (stays.disturbed i was))
+      by : i ≤ begun_of a c →
+          (HasCommitted a c i × HasFewSights 0 a c i)
+          ⊎ ((WasDisturbed a c i × HasFewSights (rechecks_in workload.version) a c i) ⊎ Waited workload job a c i) →
+          (HasCommitted b c i × HasFewSights 0 b c i)
+          ⊎ ((WasDisturbed b c i × HasFewSights (rechecks_in workload.version) b c i) ⊎ Waited workload job b c i)
+      by before (inl was) = inl (stays.committed i some before was.0, stays.sighted 0 i was.1)
+      by before (inr (inl was)) = inr (inl (stays.disturbed i was.0, stays.sighted (rechecks_in workload.version) i was.1))
       by before (inr (inr was)) = inr (inr (waited i was))
 
   -- where a worker had to stop it had to

@@ -19,19 +19,19 @@ use Rattle.dstm_jobs.specs.Jobs.{DidJob, WasSightedByOpens}
 use Rattle.dstm_tables.specs.Tells.{lets_go}
 use Rattle.dstm_jobs.proofs.Same.{objects_of_law}
 use Rattle.dstm_jobs.proofs.Answered.{IsRightFor, answered_branch, answered_plain}
+use Rattle.dstm_jobs.proofs.Inside.{KeepsOutOf, inside}
 
 -- where the attempts of a style let reads go, the newest transaction keeps few
 abbrev pub FewReads : Style → Job → (k n : Caller) → Type 0
 FewReads style job k n =
     style ≡ Loose → lets_go (round_of n) ≡ true → (by : Committed) → done n ≡ by ∷ done k → KeepsFew job by
 
--- the newest transaction has to do with the job's objects alone
-abbrev pub KeepsInside : Layout → Job → (k n : Caller) → Type 0
-KeepsInside layout job k n = (by : Committed) → done n ≡ by ∷ done k → StaysOut layout job.ops by.entry
+module _ (layout : Layout) (job : Job) (k n : Caller) (finished : Finished) (law : (law_of k).layout ≡ layout) where
+  -- an attempt whose body kept out of what is foreign to the job
+  abbrev DidInside : (is_right : List Val → List Val → Type 0) → Type 0
+  DidInside is_right = Did is_right (KeepsOutOf layout job.ops) k n finished.number
 
-module _ (layout : Layout) (job : Job) (k n : Caller) (finished : Finished) (law : (law_of k).layout ≡ layout)
-    (inside : KeepsInside layout job k n) where
-  did_job : (style : Style) (is_right : List Val → List Val → Type 0) → (d : Did is_right k n finished.number) →
+  did_job : (style : Style) (is_right : List Val → List Val → Type 0) → (d : DidInside is_right) →
       (IsRightFor is_right layout d.entry → StaysOut layout job.ops d.entry →
       IsAnsweredBy layout job.ops finished.replies d.entry) →
       FewReads style job k n → (style ≡ Branches → WasSightedByOpens n) → DidJob style layout job k n finished
@@ -44,16 +44,17 @@ module _ (layout : Layout) (job : Job) (k n : Caller) (finished : Finished) (law
         is = record {
           number = refl;
           answered = answered (λ map lawful. d.right map (objects_of_law layout k n map law d.made.on lawful)
-              (subst (λ (l : Layout). IsLawful l map) (sym law) lawful)) (inside by d.newest);
+              (subst (λ (l : Layout). IsLawful l map) (sym law) lawful)) (inside layout job.ops d.entry d.left);
         };
         few_reads = λ loose lets. few loose lets by d.newest;
         sighted = sighted;
+        few_sights = d.sighted;
       }
 
   -- by its operations in order
   pub did_plain : (style : Style) (body : Body) → body.task.layout ≡ layout → body.task.ops ≡ job.ops →
       finished.replies ≡ body.replies → All IsPlain job.ops →
-      Did (λ before after. DoesAll body.task before after body.replies) k n finished.number → FewReads style job k n →
+      DidInside (λ before after. DoesAll body.task before after body.replies) → FewReads style job k n →
       (style ≡ Branches → WasSightedByOpens n) → DidJob style layout job k n finished
   did_plain style body same ops replies plain d few sighted =
       did_job style _ d (λ right stays.
@@ -62,7 +63,7 @@ module _ (layout : Layout) (job : Job) (k n : Caller) (finished : Finished) (law
 
   -- by its first open branch
   pub did_branch :
-      Did (λ before after. IsRight (record { layout = layout; ops = job.ops }) before after (Ran finished.replies)) k n finished.number →
+      DidInside (λ before after. IsRight (record { layout = layout; ops = job.ops }) before after (Ran finished.replies)) →
       WasSightedByOpens n → DidJob Branches layout job k n finished
   did_branch d sighted =
       did_job Branches _ d (answered_branch layout job.ops finished.replies d.entry) (λ loose. absurd (cc))

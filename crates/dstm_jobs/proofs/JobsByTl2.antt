@@ -94,6 +94,7 @@ module _ (k b t : TlCalled StoreLaw) (r q : GName) (h j : Home StoreLaw) (begins
         absurd (let drew = one_weaker (draws_for (table_of_caller t) t.log) draws (table_of_caller t) t.log t.number (state t).begun
         (λ l e h. (and_parts (is_draw e.kind) (will_of (table_of_caller t) t.log e.found) h).0) committed in
         let none = undrawn in cc);
+    aborted = tt;
     blocked = λ map held stands agrees. (right map (admitted map held stands agrees)).blocked refl held stands;
     unused = λ reads. refl;
     same_done = made.same_done keeps k b t r q h j begins place;

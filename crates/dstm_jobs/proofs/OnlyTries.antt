@@ -14,7 +14,7 @@ use Rattle.dstm_tl2.specs.State.{LocalState}
 use Rattle.dstm_tl2.specs.Words.{Table}
 use Rattle.dstm_tl2.specs.declared.terms.Terms.{Terms}
 use Rattle.dstm_tl2_order.specs.Ended.{HasNoDraw, draws, reads_of}
-use Rattle.dstm_tl2_order.proofs.Draws.{drawn_stands}
+use Rattle.dstm_tl2_order.proofs.Draws.{drawn_stands, valid_commits}
 use Rattle.dstm_tl2_order.proofs.Ones.{one_weaker}
 use Rattle.dstm_tl2_order.proofs.WasRead.{reads_so_far}
 use Rattle.dstm_tl2.specs.Committed.{done_by}
@@ -49,6 +49,7 @@ stood_alone style layout job k n one was = record {
   branches = was.branches;
   made = was.made;
   given_up = was.given_up;
+  aborted = was.aborted;
   same_done = was.same_done;
   blocked = λ store stands. was.blocked _ store stands agrees;
   unused = λ reads. refl;
@@ -96,6 +97,7 @@ gave_up k b n number begins made commits =
     opened_none (record { caller = b.number; number = number; entry = commits.entry }) made commits.done begins.same_done
     (λ o. commits.reads o ∙ unread o)
     (λ o. commits.writes o ∙ ap (λ (w : Bool). if w then handed b o else None) (unopened o))
+    (valid_commits (table_of_caller n) n.log n.number made.on.rest.run.run.run commits.valid) tt
   where
     unread : (o : ℕ) → held b o ≡ None
     unread o = ap (λ (l : LocalState). value_in (read_values l.reads) o) begins.begun.1

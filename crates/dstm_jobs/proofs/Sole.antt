@@ -1,5 +1,5 @@
 -- A try of a table's only caller, by DSTM.
-use Rattle.std.proofs.Common.{◌≡◌, ◌∙◌, ◌≤◌, ◌∷◌, ℕ, List, [], Some, None, refl, sym, ap, subst, arith, reverse, Bool, if◌then◌else◌}
+use Rattle.std.proofs.Common.{◌≡◌, ◌∙◌, ◌+◌, ◌≤◌, ◌∷◌, ℕ, List, [], Some, None, refl, sym, ap, subst, arith, reverse, Bool, if◌then◌else◌}
 use Rattle.dstm_model.specs.declared.value.Val.{Val}
 use Rattle.dstm_model.specs.declared.layout.Layout.{Layout}
 use Rattle.dstm_model.specs.Map.{state_after}
@@ -12,7 +12,7 @@ use Rattle.dstm_mem.specs.Memory.{value_in, with_set}
 use Rattle.dstm_mem.proofs.WithSet.{with_set-nothing}
 use Rattle.dstm_mem.proofs.Pairs.{value_in-same}
 use Rattle.dstm_words.specs.declared.terms.Terms.{Terms}
-use Rattle.dstm_engine.specs.Attempts.{Commits, completes_pass}
+use Rattle.dstm_engine.specs.Attempts.{Commits, completes_pass, looks, sights}
 use Rattle.dstm_engine.specs.Callers.{Called, handed, law_of, shape_of, start_of, state, written}
 use Rattle.dstm_engine.specs.Transactions.{BeginsAnew}
 use Rattle.dstm_store.specs.declared.law.StoreLaw.{StoreLaw}
@@ -21,6 +21,8 @@ use Rattle.dstm_workload.specs.declared.workload.Job.{Job}
 use Rattle.dstm_tables.specs.Attempts.{HasCommitted, seen_last}
 use Rattle.dstm_jobs.specs.Answers.{IsBlockedWith}
 use Rattle.dstm_tables.specs.Tells.{entries_of}
+use Rattle.dstm_tables.specs.Tells as told
+use Rattle.dstm_tables.proofs.Made.{has_committed}
 use Rattle.dstm_jobs.proofs.OnlyByDstm.{NoneCommitted, only_blocked}
 use Rattle.dstm_jobs.specs.declared.style.Style.{Style}
 use Rattle.dstm_jobs.specs.Tables.{AtRest, Caller, OneMore}
@@ -42,6 +44,7 @@ stood_alone style layout job k n one law was = record {
   branches = was.branches;
   made = was.made;
   given_up = was.given_up;
+  aborted = was.aborted;
   same_done = was.same_done;
   blocked = λ store stands.
       only_blocked layout s (start_of n) n.log (state n).begun job store core only
@@ -82,14 +85,17 @@ nothing_named (p ∷ ps) none = absurd (let some = value_in-same p ps p.0 refl i
 -- a transaction that opened nothing
 pub opened_none : {k n : Caller} {before : List Committed} (by : Committed) → OneMore k n → callers.done n ≡ by ∷ before →
     before ≡ callers.done k → ((o : ℕ) → value_in by.entry.reads o ≡ None) →
-    ((o : ℕ) → value_in by.entry.writes o ≡ None) → HasGivenUp k n by.number
-opened_none by made newest before unread unwritten = record {
+    ((o : ℕ) → value_in by.entry.writes o ≡ None) → told.HasCommitted (callers.round_of n) (callers.number_of n) (callers.begun n) →
+    told.HasFewSights 0 (callers.round_of n) (callers.number_of n) (callers.begun n) → HasGivenUp k n by.number
+opened_none by made newest before unread unwritten committed few = record {
   made = made;
   by = by;
   newest = newest ∙ ap (λ (ds : List Committed). by ∷ ds) before;
   drew = refl;
   nothing_read = nothing_named by.entry.reads unread;
   nothing_written = nothing_named by.entry.writes unwritten;
+  committed = committed;
+  few_sights = few;
 }
 
 -- ---- a transaction that opens nothing
@@ -100,8 +106,9 @@ pub stays_lawful : (b : Called StoreLaw) (map : List Val) → ((o : ℕ) → wri
 stays_lawful b map none lawful = subst (keeps (law_of b)) (sym (with_set-nothing map (written b) none)) lawful
 
 pub gave_up : (k b n : Called StoreLaw) (number : ℕ) → BeginsAnew keeps k b → OneMore (Dstm k) (Dstm n) →
-    Commits b n number → HasGivenUp (Dstm k) (Dstm n) number
-gave_up k b n number begins made commits =
+    Commits b n number → sights n ≤ looks n + 0 → HasGivenUp (Dstm k) (Dstm n) number
+gave_up k b n number begins made commits few =
     opened_none (record { caller = b.number; number = number; entry = commits.entry }) made commits.done begins.same_done
     (λ o. commits.reads o ∙ begins.unread o)
     (λ o. commits.writes o ∙ ap (λ (b' : Bool). if b' then handed b o else None) (begins.unopened o))
+    (has_committed n made.on.rest.run made.on.rest.enrolled commits.status) few

@@ -8,7 +8,7 @@ use Rattle.dstm_model.specs.Map.{state_after}
 use Rattle.dstm_model.specs.Store.{Store}
 use Rattle.dstm_store.specs.Whole.{StandsFor}
 use Rattle.dstm_workload.specs.declared.workload.Job.{Job}
-use Rattle.dstm_tables.specs.Tells.{WasGivenUpAfter, entries_of, start_of, used_by, writes_all}
+use Rattle.dstm_tables.specs.Tells.{HasCommitted, HasFewSights, WasAborted, WasGivenUpAfter, entries_of, start_of, used_by, writes_all}
 use Rattle.dstm_jobs.specs.declared.only.OnlyTried.{OnlyTried}
 use Rattle.dstm_jobs.specs.declared.only.OnlyTried.TheVariants as tried
 use Rattle.dstm_jobs.specs.declared.style.Style.{Style}
@@ -27,6 +27,7 @@ pub record StoodAlone (style : Style) (layout : Layout) (job : Job) (k n : Calle
   pub branches : style ≡ Branches
   pub made : OneMore k n
   pub given_up : WasGivenUpAfter 1 (round_of n) (number_of n) (begun n)
+  pub aborted : WasAborted (round_of n) (number_of n) (begun n)
   pub same_done : done n ≡ done k
   pub blocked : (store : Store) → StandsFor layout (left_by n) store → apply_job job.ops store ≡ None
   pub unused : writes_all (round_of k) ≡ false → used_by (round_of n) (number_of n) ≡ used_by (round_of k) (number_of k)
@@ -36,7 +37,7 @@ HasTriedAlone style layout job k n (tried.Done finished) = DidJob style layout j
 HasTriedAlone style layout job k n tried.Blocked = StoodAlone style layout job k n
 HasTriedAlone style layout job k n tried.Spent = IsSpentFrom k n
 
--- a transaction has committed that read and wrote nothing
+-- a transaction has committed that read and wrote nothing, and made sure of nothing but by its commit
 pub record HasGivenUp (k n : Caller) (number : ℕ) : Type 0 where
   pub made : OneMore k n
   pub by : Committed
@@ -44,3 +45,5 @@ pub record HasGivenUp (k n : Caller) (number : ℕ) : Type 0 where
   pub drew : number ≡ by.number
   pub nothing_read : by.entry.reads ≡ []
   pub nothing_written : by.entry.writes ≡ []
+  pub committed : HasCommitted (round_of n) (number_of n) (begun n)
+  pub few_sights : HasFewSights 0 (round_of n) (number_of n) (begun n)

@@ -12,6 +12,11 @@ pub record SeesAll (k : Called StoreLaw) : Type 0 where
   pub run : IsRunOf keeps k.home.terms k.log
   pub covers : seen_last (shape_of k) (start_of k) k.log k.log k.number (state k).begun ≡ (entry k).reads
 
+-- it has had so many sights more at most, and has looked at an object no less often
+pub record RechecksAtMost (times : ℕ) (k n : Called StoreLaw) : Type 0 where
+  pub sights : sights n ≤ sights k + times
+  pub looks : looks k ≤ looks n
+
 -- the attempt has had so many sights more, and holds what it held
 pub record HasRechecked (times : ℕ) (k n : Called StoreLaw) : Type 0 where
   pub live : is_live n ≡ true

@@ -1,5 +1,5 @@
 -- Tables of either engine under the law of the store, and their callers.
-use Rattle.std.specs.Prelude.{ℕ, List}
+use Rattle.std.specs.Prelude.{ℕ, Bool, List, Option}
 use Rattle.dstm_model.specs.declared.value.Val.{Val}
 use Rattle.dstm_model.specs.declared.layout.Layout.{Layout}
 use Rattle.dstm_options.specs.declared.options.Engine.{Engine}
@@ -59,11 +59,12 @@ GoesOn k n = tries.GoesOn keeps k n
 abbrev pub OneMore : (k n : Caller) → Type 0
 OneMore k n = tries.OneMore keeps k n
 
-abbrev pub Did : (is_right : List Val → List Val → Type 0) → (k n : Caller) → (number : ℕ) → Type 0
-Did is_right k n number = tries.Did keeps is_right k n number
+abbrev pub Did : (is_right : List Val → List Val → Type 0) → (leaves : (ℕ → Option Val) → (ℕ → Bool) → Type 0) →
+    (k n : Caller) → (number : ℕ) → Type 0
+Did is_right leaves k n number = tries.Did keeps is_right leaves k n number
 
-abbrev pub WasKept : (k n : Caller) → Type 0
-WasKept k n = tries.WasKept keeps k n
+abbrev pub WasKept : (rechecks : ℕ) → (k n : Caller) → Type 0
+WasKept rechecks k n = tries.WasKept keeps rechecks k n
 
 abbrev pub IsSpentFrom : (k n : Caller) → Type 0
 IsSpentFrom k n = tries.IsSpentFrom keeps k n

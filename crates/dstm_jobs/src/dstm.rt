@@ -17,7 +17,7 @@ ghost use Rattle.dstm_tables.specs.Callers.{law_of, let_go};
 ghost use Rattle.dstm_jobs.specs.Jobs.{HasTried};
 ghost use Rattle.dstm_jobs.specs.Law.{keeps};
 ghost use Rattle.dstm_jobs.specs.OnlyCallers.{HasGivenUp};
-ghost use Rattle.dstm_jobs.specs.Rechecks.{HasRechecked};
+ghost use Rattle.dstm_jobs.specs.Rechecks.{HasRechecked, RechecksAtMost};
 ghost use Rattle.dstm_jobs.specs.Styles.{CanTry};
 ghost use Rattle.dstm_jobs.specs.declared.style.Style.TheVariants.{Branches, Loose, Plain};
 ghost use Rattle.dstm_tables.specs.declared.tables.Caller.TheVariants.{Dstm};
@@ -154,6 +154,7 @@ fn run<'a>(tx: &mut Tx<'a, StoreLaw>, body: &mut CompBody) -> Result<(), Again>
 fn recheck_often(tx: &mut Tx<StoreLaw>, times: u32) -> Result<(), Again>
     requires live { IsTrue (is_live tx.old.caller.now) }
     ensures stands { OnOk result (HasRechecked times tx.old.caller.now tx.new.caller.now) }
+    ensures few { RechecksAtMost times tx.old.caller.now tx.new.caller.now }
     ensures opened { (o : ℕ) → is_opened tx.new.caller.now o ≡ is_opened tx.old.caller.now o }
     ensures left { IfErr result (IsLeft tx.new.caller.now) }
     ensures dead { IfErr result (λ again. tx.new.caller.now.left ≡ Some again) }

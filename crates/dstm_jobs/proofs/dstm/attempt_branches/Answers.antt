@@ -1,4 +1,4 @@
-use Rattle.std.proofs.Common.{◌∙◌, ◌||◌, ◌&&◌, Bool, if◌then◌else◌, refl, ap, subst, sym, List, ℕ, false, ◌≡◌, ◌≢◌, is_some, None, Some, Option, IfSome}
+use Rattle.std.proofs.Common.{◌∙◌, ◌||◌, ◌&&◌, Bool, if◌then◌else◌, arith, refl, ap, subst, sym, List, ℕ, false, ◌≡◌, ◌≢◌, is_some, None, Some, Option, IfSome}
 use Rattle.dstm_model.specs.declared.layout.Layout.{Layout}
 use Rattle.dstm_model.specs.Objects.{objects_of}
 use Rattle.dstm_mem.specs.Memory.{with_set}
@@ -10,6 +10,7 @@ use Rattle.dstm_model.specs.declared.value.Val.{Val}
 use Rattle.dstm_engine.specs.Attempts.{Admits}
 use Rattle.dstm_engine.specs.Callers.{Called, held, is_opened, shape_of, written}
 use Rattle.dstm_engine.specs.Makes.{let_go}
+use Rattle.dstm_progress.specs.Lives.{TriesByShape}
 use Rattle.dstm_engine.specs.Outcomes.{IsLeft, Promises}
 use Rattle.dstm_engine.specs.Transactions.{TxPlace}
 use Rattle.dstm_compose.specs.Compose.{IsRight, KeepsOut}
@@ -19,7 +20,6 @@ use Rattle.dstm_store.specs.declared.job.JobTask.{JobTask}
 use Rattle.dstm_store.specs.Whole.{IsLawful}
 use Rattle.dstm_jobs.specs.Law.{keeps}
 use Rattle.dstm_order.specs.Tasks.Task.{Beginning, Leaving}
-use Rattle.dstm_order.specs.Retries.{TriesAgain}
 use Rattle.dstm_engine.proofs.AddingUp.{makes_both, makes_one}
 use Rattle.dstm_tables.proofs.Made.{is_spent_from, run_there}
 use Rattle.dstm_jobs.proofs.Inside.{KeepsOutOf, branch_out}
@@ -102,8 +102,9 @@ returns-in-Ok-commit-clause-tried c =
 pub returns-in-Err-commit-clause-tried : goal.returns-in-Err-commit-clause-tried
 returns-in-Err-commit-clause-tried c =
     let end = c.in-Err-commit.ensures in
-    was_left (ran (goal.at.returns-in-Err-commit-clause-tried c).After-caller-in-Ran-1) c.requires.rest
-    c.in-Err-commit.field-0 end.kept end.attempt end.leaves.steps.run end.ended.told end.leaves.left end.done
+    was_left (ran (goal.at.returns-in-Err-commit-clause-tried c).After-caller-in-Ran-1) c.requires.rest c.args.rechecks
+    c.in-Err-commit.field-0 end.kept end.attempt end.leaves.steps end.ended.told end.leaves.left end.done
+    c.in-Ok-run.ensures.few
 
 pub returns-in-Ok-rechecked-clause-tried : goal.returns-in-Ok-rechecked-clause-tried
 returns-in-Ok-rechecked-clause-tried c =
@@ -122,9 +123,9 @@ returns-in-Ok-rechecked-clause-tried c =
     let was = stood at.After-caller-in-Blocked-1 in
     let one = one_more_by was n nh left.steps.same.1 left.attempt
     (run_there u n nh left.steps.run) (rests u n left.steps)
-    (makes_both TriesAgain k u n (calls_by was c.requires.rest u refl refl refl refl
+    (makes_both (TriesByShape (shape_of k)) k u n (calls_by was c.requires.rest u refl refl refl refl
     (left.ended (ap (λ x. x || is_some u.left) rechecked.stands.live)).told)
-    (makes_one TriesAgain keeps Leaving u n None tt left.steps))
+    (makes_one (TriesByShape (shape_of k)) keeps Leaving u n None (record { again = tt; opens = λ all. tt }) left.steps))
     (λ some. aborted_fresh was n (ap (λ (x : Called _). x.fresh) left.kept) (run_there u n nh left.steps.run)
     (aborts u n left.steps (rechecked.stands.newest c.requires.some).run rechecked.stands.live some) some) in
     let there : t.home ≡ k.home = home keeps k b t _ _ _ _ begins ran.leads.place in
@@ -146,9 +147,11 @@ returns-in-Err-rechecked-clause-tried c =
     let u = c.recheck_often-rechecked.new.tx.caller.now in
     let rechecked = c.in-Err-rechecked.ensures in
     let left : u.left ≢ None = λ none. let some = rechecked.dead in cc in
-    was_dead (stood (goal.at.returns-in-Err-rechecked-clause-tried c).After-caller-in-Blocked-1) c.requires.rest _
+    was_dead (stood (goal.at.returns-in-Err-rechecked-clause-tried c).After-caller-in-Blocked-1) c.requires.rest
+    c.args.rechecks _
     (c.abandon.ensures.ended (under_way u _ rechecked.dead)).told (c.abandon.ensures.dead left) rechecked.left
     c.abandon.ensures.steps.run
+    (let few = c.in-Ok-run.ensures.few in let more = rechecked.few.sights in let looked = rechecked.few.looks in omega arith)
 
 pub returns-in-Err-run-clause-tried : goal.returns-in-Err-run-clause-tried
 returns-in-Err-run-clause-tried c =
@@ -156,10 +159,11 @@ returns-in-Err-run-clause-tried c =
     let again : t.left ≡ Some c.in-Err-run.field-0 = c.in-Err-run.ensures.leads.ended.1 in
     let left : t.left ≢ None = λ none. let some = again in cc in
     let ended = c.abandon-in-Err-run.ensures.ended (under_way t _ again) in
-    was_dead (dropped (goal.at.returns-in-Err-run-clause-tried c).After-caller-in-Err-run-1) c.requires.rest _ ended.told
+    was_dead (dropped (goal.at.returns-in-Err-run-clause-tried c).After-caller-in-Err-run-1) c.requires.rest
+    c.args.rechecks _ ended.told
     (c.abandon-in-Err-run.ensures.dead left)
     (subst (λ (o : Option Again). IfSome o (λ (x : Again). IsLeft t x × Promises t x)) again ended.left).0
-    c.abandon-in-Err-run.ensures.steps.run
+    c.abandon-in-Err-run.ensures.steps.run (let few = c.in-Err-run.ensures.few in omega arith)
 
 -- ---- no read is let go
 

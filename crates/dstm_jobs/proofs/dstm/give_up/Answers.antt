@@ -1,6 +1,7 @@
-use Rattle.std.proofs.Common.{None, refl, subst, sym}
+use Rattle.std.proofs.Common.{None, arith, refl, subst, sym}
 use Rattle.dstm_order.specs.Tasks.Task.{Beginning}
 use Rattle.dstm_engine.proofs.LettingGo.{lets_none_go}
+use Rattle.dstm_engine.proofs.Looked.{begins_few, commit_few, few_since}
 use Rattle.dstm_engine.proofs.Made.{Tried, keeps_reads, tried}
 use Rattle.dstm_engine.specs.Callers.{Called}
 use Rattle.dstm_tables.specs.declared.tables.Caller.TheVariants.{Dstm}
@@ -36,7 +37,10 @@ returns-clause-given_up c =
     subst (λ (x : Called _). HasGivenUp (Dstm c.args.caller.now) (Dstm x) c.in-Ok-commit.number) (sym a.end)
     (gave_up c.args.caller.now c.in-Ok.tx.caller.now c.commit.new.self.0 c.in-Ok-commit.number c.in-Ok.ensures.begins
     (one_committed a c.requires.rest end.kept end.attempt end.stays.steps.run end.ended.told c.in-Ok-commit.number
-    end.number) end.number)
+    end.number) end.number
+    (let few = few_since c.in-Ok.tx.caller.now c.commit.new.self.0
+    (begins_few keeps c.args.caller.now c.in-Ok.tx.caller.now c.in-Ok.ensures.begins) (commit_few end.attempt end.stays.steps) in
+    omega (arith, few)))
 
 pub returns-in-Err-clause-keeps : goal.returns-in-Err-clause-keeps
 returns-in-Err-clause-keeps c =

@@ -3,7 +3,8 @@ use Rattle.dstm_engine.specs.Transactions.{TxPlace}
 use Rattle.dstm_order.specs.Tasks.Task.{Doing}
 use Rattle.dstm_order.specs.Tasks.Work.{Rechecking}
 use Rattle.dstm_engine.proofs.LettingGo.{lets_none_go}
-use Rattle.dstm_engine.proofs.Looked.{looks_stay}
+use Rattle.dstm_engine.proofs.Continuing.{doing_keeps}
+use Rattle.dstm_engine.proofs.Looked.{looks_stay, recheck_one}
 use Rattle.dstm_jobs.specs.Law.{keeps}
 use Rattle.dstm_jobs.proofs.Rechecking.{recheck_sees}
 use Rattle.dstm_jobs.proofs.dstm.recheck_often.Goals as goal
@@ -34,3 +35,18 @@ pub returns-in_err-recheck-clause-kept : goal.returns-in_err-recheck-clause-kept
 returns-in_err-recheck-clause-kept c =
     lets_none_go keeps c.loop-pass.tx.caller.now c.recheck.new.self.caller.now (Doing Rechecking) _ tt
     c.in_err-recheck.ensures.leaves.steps ∙ c.loop-pass.invariant.5
+
+pub returns-clause-few : goal.returns-clause-few
+returns-clause-few c = let was = c.loop-pass.invariant.1 in record { sights = omega arith; looks = was.looks }
+
+-- a recheck that fails is one of them
+pub returns-in_err-recheck-clause-few : goal.returns-in_err-recheck-clause-few
+returns-in_err-recheck-clause-few c =
+    let was = c.loop-pass.invariant.1 in
+    let left = c.in_err-recheck.ensures.leaves.steps in
+    let n = c.recheck.new.self.caller.now in
+    let one = recheck_one (doing_keeps left) left in
+    let later = looks_stay c.loop-pass.tx.caller.now n left.same.0 left.same.1 left.seen (doing_keeps left) in
+    let before = was.sights in
+    let looked = was.looks in
+    record { sights = omega arith; looks = omega arith }

@@ -15,7 +15,7 @@ use Rattle.dstm_jobs.specs.Law.{keeps}
 use Rattle.dstm_jobs.specs.Tables.{WasKept}
 use Rattle.dstm_tables.proofs.ByTl2.{tl2_did, tl2_kept, tl2_spent}
 use Rattle.dstm_jobs.proofs.Doing.{did_branch}
-use Rattle.dstm_jobs.proofs.Inside.{branch_out, tl2_inside}
+use Rattle.dstm_jobs.proofs.Inside.{KeepsOutOf, branch_out}
 use Rattle.dstm_jobs.proofs.JobsByTl2.{stood_at}
 use Rattle.dstm_jobs.proofs.tl2.attempt_branches.Goals as goal
 
@@ -43,18 +43,17 @@ returns-in-Ok-commit c = λ rechecks.
     (record { number = c.in-Ok-commit.number; replies = c.in-Ran.replies })) _ _ _ _ (assumption c) name
     (did_branch c.args.layout.now c.args.job.now (Tl2 k) (Tl2 n)
     (record { number = c.in-Ok-commit.number; replies = c.in-Ran.replies }) c.requires.law
-    (λ by is. tl2_inside c.args.layout.now c.args.job.now.ops t n c.in-Ok-commit.number commit.number
-    (branch_out c.args.layout.now c.args.job.now.ops c.run.new.self.task _ _
-    (ap (λ (j : JobTask). j.layout) ran.task ∙ c.make-body.ensures.layout)
-    (ap (λ (j : JobTask). j.ops) ran.task ∙ c.make-body.ensures.ops) ran.leaves.1) by _ is)
-    (tl2_did _ k n c.in-Ok-commit.number c.requires.rest
+    (tl2_did _ (KeepsOutOf c.args.layout.now c.args.job.now.ops) k t n c.in-Ok-commit.number c.in-Ok-commit.number c.requires.rest
     (made keeps k b t _ _ _ _ begins place n _ commit.kept commit.stays.attempt commit.number.free
     (λ _. commit.number.valid) commit.seen commit.stays.steps.run commit.told)
     (settled keeps k b t _ _ _ _ begins place _ n c.in-Ok-commit.number _ commit.kept commit.stays.steps.run commit.number
     (λ map admits. right_for c.args.layout.now c.args.job.now.ops c.run.new.self.task c.run.new.self.outcome _ map _
     (ap (λ (j : JobTask). j.layout) ran.task ∙ c.make-body.ensures.layout)
     (ap (λ (j : JobTask). j.ops) ran.task ∙ c.make-body.ensures.ops) (sym c.outcome.ensures ∙ c.in-Ran.is)
-    (ran.right map admits)))) tt)
+    (ran.right map admits))) commit.number
+    (branch_out c.args.layout.now c.args.job.now.ops c.run.new.self.task _ _
+    (ap (λ (j : JobTask). j.layout) ran.task ∙ c.make-body.ensures.layout)
+    (ap (λ (j : JobTask). j.ops) ran.task ∙ c.make-body.ensures.ops) ran.leaves.1)) tt)
 
 pub returns-in-Err-commit : goal.returns-in-Err-commit
 returns-in-Err-commit c = λ rechecks.
@@ -66,8 +65,8 @@ returns-in-Err-commit c = λ rechecks.
     let begins = c.in-Ok.ensures.begins in
     let place = c.in-Ok-run.ensures.leads.place in
     let name = same_name keeps k b t _ _ _ _ begins place _ c.in-Ok.ensures.same in
-    in_the_end (λ (x : TlCalled _). WasKept (Tl2 k) (Tl2 x)) _ _ _ _ (assumption c) name
-    (tl2_kept k n c.in-Err-commit.field-0 c.requires.rest
+    in_the_end (λ (x : TlCalled _). WasKept rechecks (Tl2 k) (Tl2 x)) _ _ _ _ (assumption c) name
+    (tl2_kept rechecks k n c.in-Err-commit.field-0 c.requires.rest
     (made keeps k b t _ _ _ _ begins place n (Some c.in-Err-commit.field-0) commit.kept commit.leaves.attempt
     commit.leaves.left.given_back.free (λ none. absurd (cc)) commit.seen commit.leaves.steps.run commit.told)
     commit.leaves.left (commit.leaves.done ∙ same_done keeps k b t _ _ _ _ begins place))
@@ -103,7 +102,7 @@ returns-in-Err-run c = λ rechecks.
     let was = c.abandon-in-Err-run.ensures in
     let left : IsLeft t = subst (λ l. IfSome l (λ _. IsLeft t)) over was.left in
     let name = same_name keeps k b t _ _ _ _ begins place _ c.in-Ok.ensures.same in
-    let P = λ (x : TlCalled _). WasKept (Tl2 k) (Tl2 x) in
-    in_the_end P _ _ _ _ (assumption c) name (subst P (sym was.same) (tl2_kept k t c.in-Err-run.field-0 c.requires.rest
+    let P = λ (x : TlCalled _). WasKept rechecks (Tl2 k) (Tl2 x) in
+    in_the_end P _ _ _ _ (assumption c) name (subst P (sym was.same) (tl2_kept rechecks k t c.in-Err-run.field-0 c.requires.rest
     (made keeps k b t _ _ _ _ begins place t (Some c.in-Err-run.field-0) (still t _ over) refl left.given_back.free
     (λ none. absurd (cc)) was.seen was.run was.told) left (same_done keeps k b t _ _ _ _ begins place)))
