@@ -16,8 +16,9 @@ use Rattle.dstm_tables.specs.Callers.{CameByCalls, begun, done, let_go, number_o
 use Rattle.dstm_tables.proofs.Calls.{by_calls, calls_at_close, came_on}
 use Rattle.dstm_tables.specs.Founders.{TakesBack, first_of, seen_by}
 use Rattle.dstm_jobs.specs.Tables as known
-use Rattle.dstm_tables.specs.Tells.{ByCalls, IsPast, IsSpent, all_done, begun_of, callers_of, committed_of, done_of, let_go_by, start_of, values_of}
-use Rattle.dstm_tables.proofs.Closing.{done_at_close, let_go_at_close, spent_at_close}
+use Rattle.dstm_tables.specs.Tells.{ByCalls, IsPast, IsSpent, WasSighted, all_done, begun_of, callers_of, committed_of, done_of, let_go_by, start_of, values_of}
+use Rattle.dstm_tables.proofs.Closing.{done_at_close, let_go_at_close, spent_at_close, stays_in}
+use Rattle.dstm_tables.specs.Laws.{StaysIn}
 use Rattle.dstm_tables.proofs.History.{sights_agree}
 use Rattle.dstm_tables.proofs.Staying.{attempts_past, lets_go_past}
 use Rattle.dstm_tables.proofs.Same.{callers_past, first_past, first_seen, locators_past, number_below, only_tells_all, start_past, writes_past}
@@ -182,6 +183,19 @@ module _ (workload : Workload) (options : Options) (number : ℕ) (before : List
       subst (IsSpent (seen_by g)) zeroth
       (spent_at_close (round_of n) (seen_by g) (number_of n) takes.other_past takes.other_kept spent)
 
+  -- its attempts were made sure of as often as its caller knows
+  sighted_then : (i : ℕ) → 0 < i → i ≤ begun n → WasSighted 1 (round_of n) (number_of n) i → WasSighted 1 (seen_by g) 0 i
+  sighted_then i some few was = subst (λ (c : ℕ). WasSighted 1 (seen_by g) c i) zeroth (by was)
+    where
+      stays : StaysIn (round_of n) (seen_by g) (number_of n)
+      stays =
+          stays_in keeps (round_of n) (seen_by g) (number_of n) run (number_below n ran.goes.on.rest) takes.other_past
+          takes.other_kept
+
+      by : WasSighted 1 (round_of n) (number_of n) i → WasSighted 1 (seen_by g) (number_of n) i
+      by (inl was) = inl (stays.committed i some few was.0, stays.sighted 0 i was.1)
+      by (inr was) = inr (stays.aborted i some few was.0, stays.sighted 1 i was.1)
+
   is_alone : IsAlone workload options before ran.now (seen_by g)
   is_alone =
       let begun_then : begun_of (seen_by g) 0 ≡ begun n = ap (begun_of (seen_by g)) (sym zeroth)
@@ -200,6 +214,9 @@ module _ (workload : Workload) (options : Options) (number : ℕ) (before : List
               | inr spent ↦ inr (is_spent spent)
             ];
         attempts = let few = ran.attempts in omega (arith, few, begun_then);
+        sighted = λ i some few.
+            let before : i ≤ begun n = omega (arith, few, begun_then) in
+            sighted_then i some before (ran.goes.sighted i some before);
         order = ran.order;
         ended = elim ran.ended [
           | inl some ↦ inl some

@@ -27,7 +27,7 @@ use Rattle.dstm_records.specs.Records.{AreRising, IsReleasing, KeepsFewReads, Wa
 use Rattle.dstm_records.specs.Rounds.{attempts_for, has_job, is_parallel, left_by, workers_left}
 use Rattle.std.proofs.lemmas.Option.{none-some, same_Some}
 use Rattle.dstm_jobs.specs.Answers.{IsAnsweredBy, KeepsFew}
-use Rattle.dstm_tables.specs.Tells.{CannotBegin, IsSpent, all_done, attempts_of, callers_of, committed_of, done_of, entries_of, start_of, used_by}
+use Rattle.dstm_tables.specs.Tells.{CannotBegin, IsSpent, WasSighted, all_done, attempts_of, callers_of, committed_of, done_of, entries_of, start_of, used_by}
 use Rattle.dstm_tables.proofs.Entries.{entries_push}
 use Rattle.dstm_tables.proofs.History.{is_history}
 use Rattle.dstm_model.specs.Map.{Agrees, IsLegal}
@@ -36,12 +36,12 @@ use Rattle.dstm_records.proofs.Collecting.{Collected}
 use Rattle.dstm_records.proofs.Follows.{agrees_next, answers_there}
 use Rattle.dstm_records.proofs.Replies.{not_given_up}
 use Rattle.dstm_records.proofs.Told.{AreTold-push, rows_told, turn_names}
-use Rattle.dstm_jobs.specs.Tables.{AtRest, Caller, GoesOn, IsSpentFrom, Table}
+use Rattle.dstm_jobs.specs.Tables.{AtRest, Caller, GoesOn, IsSpentFrom, OneMore, Table}
 use Rattle.dstm_tables.specs.Callers.{done, number_of, round_of}
 use Rattle.dstm_tables.specs.Callers as callers
 use Rattle.dstm_jobs.specs.Jobs.{DidJob}
 use Rattle.dstm_jobs.specs.OnlyCallers.{HasGivenUp, StoodAlone, left_by as values_left}
-use Rattle.dstm_tables.proofs.Staying.{goes_nowhere, goes_on, same_attempts, same_lets_go}
+use Rattle.dstm_tables.proofs.Staying.{few_begun, few_given, goes_nowhere, goes_on, same_attempts, same_lets_go, sighted_later}
 use Rattle.dstm_tables.proofs.Same.{callers_same, can_begin, law_same, locators_same, number_below, only_tells_all, start_same, writes_same}
 use Rattle.dstm_jobs.specs.declared.style.Style.{Style}
 use Rattle.dstm_jobs.specs.declared.style.Style.TheVariants.{Branches, Loose, Plain}
@@ -197,6 +197,31 @@ pub told_committed : {k : Caller} → AtRest k → callers_of (round_of k) ≡ 1
 told_committed {k = k} rest only =
     only_tells_all keeps (round_of k) rest.run only ∙ ap (done_of (round_of k)) (sym (number_zero rest only))
 
+-- how often the attempts of a caller were made sure of
+abbrev AreSighted : (k n : Caller) → Type 0
+AreSighted k n =
+    (i : ℕ) → callers.begun k < i → i ≤ callers.begun n → WasSighted 1 (round_of n) (number_of n) i
+
+-- its last one was made sure of so often
+last_sighted : {k n : Caller} → OneMore k n → WasSighted 1 (round_of n) (number_of n) (callers.begun n) → AreSighted k n
+last_sighted {n = n} made was i late few =
+    subst (WasSighted 1 (round_of n) (number_of n)) (let b = made.begun in omega (arith, b, late, few)) was
+
+-- it has begun none since
+none_sighted : {k n : Caller} → callers.begun n ≡ callers.begun k → AreSighted k n
+none_sighted same i late few = absurd (omega (arith, same, late, few))
+
+-- and so were those before
+all_sighted : {k n : Caller} → AtRest k → GoesOn k n →
+    ((i : ℕ) → 0 < i → i ≤ callers.begun k → WasSighted 1 (round_of k) (number_of k) i) → AreSighted k n → (i : ℕ) →
+    0 < i → i ≤ callers.begun n → WasSighted 1 (round_of n) (number_of n) i
+all_sighted {k = k} {n = n} rest on was more i some few = by (cases_lt (callers.begun k) i)
+  where
+    by : (callers.begun k < i) ⊎ (i ≤ callers.begun k) → WasSighted 1 (round_of n) (number_of n) i
+    by (inl late) = more i late few
+    by (inr early) =
+        sighted_later 1 k n i on some (let range = few_begun k rest in omega (arith, range, early)) (was i some early)
+
 module _ {workload : Workload} {options : Options} {number : ℕ} {table : Table} {first : Caller} {before : List Row}
     {begun : Turning} (can : CanRunAlone workload options number table first before begun) where
   only_of : {k : Caller} → GoesOn first k → callers_of (round_of k) ≡ 1
@@ -228,14 +253,15 @@ module _ {workload : Workload} {options : Options} {number : ℕ} {table : Table
 
   -- the caller went on and committed nothing
   still : {k n : Caller} {rows now : List Row} {turns : Turning} →
-      Goes workload options number first k before rows now turns → GoesOn k n → done n ≡ done k →
+      Goes workload options number first k before rows now turns → GoesOn k n → done n ≡ done k → AreSighted k n →
       Goes workload options number first n before rows now turns
-  still {k = k} {n = n} {now = now} goes on same = record {
+  still {k = k} {n = n} {now = now} goes on same sighted = record {
     rows_are = goes.rows_are;
     turns_are = goes.turns_are;
     on = goes_on first k n goes.on on;
     told = subst (λ (ds : List Committed). AreTold workload before now (reverse ds)) (sym same) goes.told;
     in_round = goes.in_round;
+    sighted = all_sighted goes.on.rest on goes.sighted sighted;
     few_reads = λ releasing.
         subst (λ (ds : List Committed). All (KeepsFewReads workload) (zip now (reverse ds))) (sym same)
         (goes.few_reads releasing);
@@ -243,14 +269,15 @@ module _ {workload : Workload} {options : Options} {number : ℕ} {table : Table
 
   -- a transaction has committed, and its row was made
   row_goes : {k n : Caller} {rows now : List Row} {turns behind : Turning} (by : Committed) (row : Row) (job : Job) →
-      Goes workload options number first k before rows now turns → GoesOn k n → done n ≡ by ∷ done k →
-      first_job row.worker turns.left ≡ Some job → row.line ≡ job.line → row.round ≡ number → row.number ≡ by.number →
+      Goes workload options number first k before rows now turns → OneMore k n → done n ≡ by ∷ done k →
+      WasSighted 1 (round_of n) (number_of n) (callers.begun n) → first_job row.worker turns.left ≡ Some job →
+      row.line ≡ job.line → row.round ≡ number → row.number ≡ by.number →
       (IsAnsweredBy workload.layout job.ops row.replies by.entry ⊎ IsGivenUp workload rows row by) →
       (IsReleasing options workload.version → KeepsFewReads workload (row, by)) →
       behind ≡ record turns { left = without_first row.worker turns.left } →
       Goes workload options number first n before (rows ++ row ∷ []) (now ++ row ∷ []) behind
-  row_goes {k = k} {n = n} {rows = rows} {now = now} {turns = turns} by row job goes on newest turn line round drew
-      answer few turned =
+  row_goes {k = k} {n = n} {rows = rows} {now = now} {turns = turns} by row job goes made newest sighted turn line round
+      drew answer few turned =
       let left : turns.left ≡ jobs_left workload.jobs rows = ap (λ (t : Turning). t.left) goes.turns_are in
       let turn_there : first_job row.worker (jobs_left workload.jobs rows) ≡ Some job =
       ap (first_job row.worker) (sym left) ∙ turn in
@@ -262,7 +289,8 @@ module _ {workload : Workload} {options : Options} {number : ℕ} {table : Table
             ∙ ap (λ (t : Turning). record { jobs = t.jobs; left = without_first row.worker t.left }) goes.turns_are
             ∙ ap (λ (l : List Job). record { jobs = workload.jobs; left = l })
             (turn_ends workload.jobs rows row job (rise_all workload.jobs can.valid.rising) turn_there line);
-        on = goes_on first k n goes.on on;
+        on = goes_on first k n goes.on made.on;
+        sighted = all_sighted goes.on.rest made.on goes.sighted (last_sighted made sighted);
         told = subst (AreTold workload before (now ++ row ∷ []))
             (sym (ap reverse newest ∙ reverse-cons by (done k)))
             (AreTold-push workload before now row (reverse (done k)) by goes.told
@@ -301,6 +329,7 @@ module _ {workload : Workload} {options : Options} {number : ℕ} {table : Table
       on = goes_nowhere first can.rest;
       told = subst (λ (ds : List Committed). AreTold workload before [] (reverse ds)) (sym can.none_done) tt;
       in_round = All-from_recursion (λ (r : Row). r.round ≡ number) [] tt;
+      sighted = λ i some few. absurd (let z = can.none_begun in omega (arith, z, some, few));
       few_reads = λ releasing.
           subst (λ (ds : List Committed). All (KeepsFewReads workload) (zip [] (reverse ds))) (sym can.none_done)
           (All-from_recursion (KeepsFewReads workload) [] tt);
@@ -421,7 +450,11 @@ module _ {workload : Workload} {options : Options} {number : ℕ} {table : Table
       Sweeps workload options number first n before rows turns (w + 1) some
   step_blocked {k = k} {n = n} {rows = rows} {turns = turns} {w = w} {some = some} {job = job} inside third turn stood
       s =
-      let goes = still s.goes stood.made.on stood.same_done in
+      let goes = still s.goes stood.made.on stood.same_done
+      (last_sighted stood.made (inr (
+        stood.aborted,
+        few_given 1 (round_of n) (number_of n) (callers.begun n) stood.given_up,
+      ))) in
       let left : turns.left ≡ jobs_left workload.jobs rows = ap (λ (t : Turning). t.left) s.goes.turns_are in
       let there : first_job w (jobs_left workload.jobs rows) ≡ Some job = ap (first_job w) (sym left) ∙ turn in
       let stuck = stood.blocked (store_after workload rows) (stands_now goes) in
@@ -481,7 +514,7 @@ module _ {workload : Workload} {options : Options} {number : ℕ} {table : Table
       (same_lets_go first n (goes_on first k n s.goes.on did.made.on) ∙ can.reads_go releasing)) in
       record {
         now = s.now ++ row ∷ [];
-        goes = row_goes did.by row job s.goes did.made.on did.newest here line round
+        goes = row_goes did.by row job s.goes did.made did.newest (inl (did.committed, did.few_sights)) here line round
             (drew ∙ did.is.number) (inl answered) few turned;
         passes = passes_done row worker kept s.passes;
         few = λ v below.
@@ -600,7 +633,7 @@ module _ {workload : Workload} {options : Options} {number : ℕ} {table : Table
 
       by : (now : List Row) → s.now ≡ now → HasRunAlone workload options number first n before rows turns
       by (row ∷ now) is =
-          end_by w (still s.goes was.on was.same_done) s.passes (inr (inr was.spent)) s.few s.others
+          end_by w (still s.goes was.on was.same_done (none_sighted was.begun)) s.passes (inr (inr was.spent)) s.few s.others
           (let some_ = ap length is in omega (arith, some_)) (λ v below had. inr was.spent) tries
       by [] is = absurd (not_spent s.goes.on (s.unused is) (few is) was.was)
 
@@ -639,7 +672,7 @@ module _ {workload : Workload} {options : Options} {number : ℕ} {table : Table
       } in
       record {
         now = s.now ++ row ∷ [];
-        goes = row_goes gave.by row job s.goes gave.made.on gave.newest here line round
+        goes = row_goes gave.by row job s.goes gave.made gave.newest (inl (gave.committed, gave.few_sights)) here line round
             (drew ∙ gave.drew) (inr given) (λ releasing. few_given workload row gave.by gave.nothing_read) turned;
         passes = passes_given row (ap is_given_up replies) s.passes;
         few = λ v below. absurd (omega (arith, below));

@@ -27,10 +27,10 @@ use Rattle.dstm_jobs.specs.declared.trying.Left.TheVariants as left
 use Rattle.dstm_jobs.specs.Answers.{IsDone, KeepsFew}
 use Rattle.dstm_tables.specs.Callers as attempts
 use Rattle.dstm_tables.specs.Callers.{begun, done, number_of, round_of}
-use Rattle.dstm_jobs.specs.Jobs.{StoodBlocked, Waited}
+use Rattle.dstm_jobs.specs.Jobs.{StoodBlocked, Waited, rechecks_by, rechecks_in}
 use Rattle.dstm_tables.specs.Tries.{WasNotWasted}
 use Rattle.dstm_jobs.specs.Styles.{CanTry, style_of}
-use Rattle.dstm_tables.specs.Tells.{HasCommitted, WasDisturbed, lets_go}
+use Rattle.dstm_tables.specs.Tells.{HasCommitted, HasFewSights, WasDisturbed, lets_go}
 use Rattle.dstm_tables.proofs.Staying.{goes_nowhere, goes_on, same_lets_go}
 use Rattle.dstm_records.specs.Records.{IsReleasing, KeepsReads}
 use Rattle.dstm_crew.specs.declared.worker.Worker.{Worker}
@@ -89,6 +89,16 @@ not_loose options version newest is keeps loose =
     low : (version == 3) ≡ false → (version ≡ 3) ⊎ (version ≡ 3 → ⊥) → version ≤ 2
     low other (inl third) = absurd (true≢false (sym (eq-eqb version 3 third) ∙ other))
     low other (inr lower) = omega arith
+
+-- an attempt of the style of a version makes sure beside its opens at a blocked job alone, so only in version 3
+rechecks_are : (version : ℕ) (release : Bool) → rechecks_by (style_of version release) 1024 ≡ rechecks_in version
+rechecks_are version release = by (version == 3) release
+  where
+    by : (third release : Bool) → rechecks_by (if third then Branches else if release then Loose else Plain) 1024
+        ≡ (if third then 1024 else 0)
+    by true release = refl
+    by false true = refl
+    by false false = refl
 
 -- without conditions all operations are plain
 plain_op : (version : ℕ) (op : Op) → version ≤ 2 → HasOp version op → IsPlain op
@@ -165,7 +175,7 @@ few-push layout jobs (p ∷ places) (f ∷ finished) (d ∷ by) last place more 
 pub record Stands (workload : Workload) (style : Style) (k n : Caller) (places : List ℕ)
     (finished : List Finished) : Type 0 where
   pub on : GoesOn k n
-  pub none_wasted : NoneWastedSince k n (begun n)
+  pub none_wasted : NoneWastedSince style k n (begun n)
   pub done : AreDone workload.layout workload.jobs places finished (reverse (done n))
   pub few_reads : style ≡ Loose → lets_go (round_of n) ≡ true →
       All (FewAt workload.jobs) (zip places (reverse (attempts.done n)))
@@ -182,13 +192,13 @@ at_start workload style {k = k} places rest none = record {
 }
 
 -- no attempt was wasted up to some number
-then_none : {k n m : Caller} (most : ℕ) → GoesOn k n → GoesOn n m → NoneWastedSince k n (begun n) →
-    NoneWastedSince n m most → NoneWastedSince k m most
-then_none {k = k} {n = n} {m = m} most on more first second i after before = by (cases_lt (begun n) i)
+then_none : (style : Style) {k n m : Caller} (most : ℕ) → GoesOn k n → GoesOn n m → NoneWastedSince style k n (begun n) →
+    NoneWastedSince style n m most → NoneWastedSince style k m most
+then_none style {k = k} {n = n} {m = m} most on more first second i after before = by (cases_lt (begun n) i)
   where
-    by : (begun n < i) ⊎ (i ≤ begun n) → WasNotWasted m i
+    by : (begun n < i) ⊎ (i ≤ begun n) → WasNotWasted (rechecks_by style 1024) m i
     by (inl late) = second i late before
-    by (inr early) = earlier k (begun n) on.rest more (omega arith) first i after early
+    by (inr early) = earlier style k (begun n) on.rest more (omega arith) first i after early
 
 -- reads are let go on the whole table
 same_reads : {n m : Caller} → GoesOn n m → lets_go (round_of m) ≡ true → lets_go (round_of n) ≡ true
@@ -200,10 +210,10 @@ pub one_done : {workload : Workload} {style : Style} {k n m : Caller} {places : 
     HasDone style workload.layout job n m next → length finished < length places →
     place ≡ get_or places (length finished) place → job ≡ job_at workload.jobs place →
     Stands workload style k m places (finished ++ next ∷ [])
-one_done {workload = workload} {k = k} {n = n} {m = m} {places = places} {finished = finished} {next = next} place
+one_done {workload = workload} {style = style} {k = k} {n = n} {m = m} {places = places} {finished = finished} {next = next} place
     stands was more at is = record {
       on = goes_on k n m stands.on was.on;
-      none_wasted = then_none (begun m) stands.on was.on stands.none_wasted was.none_wasted;
+      none_wasted = then_none style (begun m) stands.on was.on stands.none_wasted was.none_wasted;
       done =
           subst (AreDone workload.layout workload.jobs places (finished ++ next ∷ []))
           (sym (ap reverse was.newest ∙ reverse-cons was.by (done n)))
@@ -233,13 +243,30 @@ module _ (workload : Workload) (options : Options) (old new : Worker) (unbegun :
   abbrev next : Option Job
   next = next_job workload.jobs new.places.items new.done.items
 
-  -- an attempt that was not wasted, nor stood at the job that is next
-  not_wasted : (i : ℕ) → WasNotWasted new.caller i →
-      HasCommitted (round_of new.caller) (number_of new.caller) i
-      ⊎ (WasDisturbed (round_of new.caller) (number_of new.caller) i
+  -- an attempt was not wasted, or it stood at the job that is next
+  abbrev HadCause : ℕ → Type 0
+  HadCause i =
+      (HasCommitted (round_of new.caller) (number_of new.caller) i × HasFewSights 0 (round_of new.caller) (number_of new.caller) i)
+      ⊎ ((WasDisturbed (round_of new.caller) (number_of new.caller) i
+      × HasFewSights (rechecks_in workload.version) (round_of new.caller) (number_of new.caller) i)
       ⊎ Waited workload next (round_of new.caller) (number_of new.caller) i)
+
+  not_wasted : (i : ℕ) → WasNotWasted (rechecks_by style 1024) new.caller i → HadCause i
   not_wasted i (inl committed) = inl committed
-  not_wasted i (inr disturbed) = inr (inl disturbed)
+  not_wasted i (inr disturbed) =
+      inr (inl (
+        disturbed.0,
+        subst (λ (most : ℕ). HasFewSights most (round_of new.caller) (number_of new.caller) i)
+            (ap (λ (s : Style). rechecks_by s 1024) is_style ∙ rechecks_are workload.version (releases options)) disturbed.2,
+      ))
+
+  -- as often as by another style of this version
+  same_since : (release : Bool) {n : Caller} (most : ℕ) →
+      NoneWastedSince (style_of workload.version release) n new.caller most → NoneWastedSince style n new.caller most
+  same_since release most none i after before =
+      subst (λ (rechecks : ℕ). WasNotWasted rechecks new.caller i)
+      (rechecks_are workload.version release ∙ sym (rechecks_are workload.version (releases options))
+      ∙ ap (λ (s : Style). rechecks_by s 1024) (sym is_style)) (none i after before)
 
   -- it was loose, where reads are given up early
   was_loose : IsReleasing options workload.version → style ≡ Loose
@@ -276,16 +303,16 @@ module _ (workload : Workload) (options : Options) (old new : Worker) (unbegun :
   }
 
   -- no attempt is left
-  pub stopped_spent : {n : Caller} → Stands workload style old.caller n new.places.items new.done.items →
-      HasNoneLeft n new.caller → HasRun workload options old new
-  stopped_spent {n = n} stands was = record {
+  pub stopped_spent : {n : Caller} (release : Bool) → Stands workload style old.caller n new.places.items new.done.items →
+      HasNoneLeft (style_of workload.version release) n new.caller → HasRun workload options old new
+  stopped_spent {n = n} release stands was = record {
     number = number;
     places = places;
     on = goes_on old.caller n new.caller stands.on was.on;
     done = still_done stands was.same_done;
     none_wasted = λ i some few.
-        not_wasted i (then_none (begun new.caller) stands.on was.on stands.none_wasted
-        was.none_wasted i (omega arith) few);
+        not_wasted i (then_none style (begun new.caller) stands.on was.on stands.none_wasted
+        (same_since release (begun new.caller) was.none_wasted) i (omega arith) few);
     left = λ few. inl was.spent;
     few_reads = same_few stands was.on was.same_done;
   }
@@ -314,14 +341,12 @@ module _ (workload : Workload) (options : Options) (old new : Worker) (unbegun :
       }
 
       by : (i : ℕ) → 0 < i → i ≤ (begun new.caller) →
-          (i ≡ (begun new.caller)) ⊎ (i ≡ (begun new.caller) → ⊥) →
-          HasCommitted (round_of new.caller) (number_of new.caller) i
-          ⊎ (WasDisturbed (round_of new.caller) (number_of new.caller) i
-          ⊎ Waited workload next (round_of new.caller) (number_of new.caller) i)
+          (i ≡ (begun new.caller)) ⊎ (i ≡ (begun new.caller) → ⊥) → HadCause i
       by i some few (inl last) =
           inr (inr (subst (Waited workload next (round_of new.caller) (number_of new.caller)) (sym last) waited))
       by i some few (inr other) =
-          not_wasted i (then_none was.last stands.on was.on stands.none_wasted was.none_wasted i
+          not_wasted i (then_none style was.last stands.on was.on stands.none_wasted
+          (same_since release was.last was.none_wasted) i
           (omega arith) (let b = was.is_last in omega arith))
 
   -- why ever it left the job that is next
@@ -329,5 +354,5 @@ module _ (workload : Workload) (options : Options) (old new : Worker) (unbegun :
       Stands workload style old.caller n new.places.items new.done.items →
       HasLeft (style_of workload.version release) workload.layout job n new.caller why →
       Some job ≡ next_job workload.jobs new.places.items new.done.items → HasRun workload options old new
-  stopped {n = n} release job left.Spent stands was is = stopped_spent stands was
+  stopped {n = n} release job left.Spent stands was is = stopped_spent release stands was
   stopped {n = n} release job left.Blocked stands was is = stopped_blocked release stands was is

@@ -4,7 +4,7 @@ use Rattle.std.specs.List.{range_with_len}
 use Rattle.dstm_model.specs.Job.{apply_job}
 use Rattle.dstm_jobs.specs.Tables.{AtRest, Caller, GoesOn, Table}
 use Rattle.dstm_tables.specs.Callers.{begun, done, home_of, law_of, number_of, round_of}
-use Rattle.dstm_tables.specs.Tells.{HasLocators, IsSpent, attempts_of, callers_of, lets_go, start_of, used_by, writes_all}
+use Rattle.dstm_tables.specs.Tells.{HasLocators, IsSpent, WasSighted, attempts_of, callers_of, lets_go, start_of, used_by, writes_all}
 use Rattle.dstm_store.specs.Whole.{StandsFor}
 use Rattle.dstm_workload.specs.declared.workload.Job.{Job}
 use Rattle.dstm_workload.specs.declared.workload.Workload.{Workload}
@@ -43,7 +43,8 @@ pub record CanRunAlone (workload : Workload) (options : Options) (number : ℕ) 
   pub some_left : 0 < length (left_by workload before)
 
 -- What there is of an alone round: its rows so far tell of what the caller has committed, one for one. With early
--- release, walks along the list keep few reads.
+-- release, walks along the list keep few reads. An attempt was made sure of by its opens and its commit, and at a blocked job
+-- once more.
 pub record Goes (workload : Workload) (options : Options) (number : ℕ) (first k : Caller) (before rows now : List Row)
     (turns : Turning) : Type 0 where
   pub rows_are : rows ≡ before ++ now
@@ -51,6 +52,7 @@ pub record Goes (workload : Workload) (options : Options) (number : ℕ) (first 
   pub on : GoesOn first k
   pub told : AreTold workload before now (reverse (done k))
   pub in_round : All (λ row. row.round ≡ number) now
+  pub sighted : (i : ℕ) → 0 < i → i ≤ begun k → WasSighted 1 (round_of k) (number_of k) i
   pub few_reads : IsReleasing options workload.version → All (KeepsFewReads workload) (zip now (reverse (done k)))
 
 -- The rows so far are in order, and the workers whose jobs were done stand before this one. `some` tells whether there

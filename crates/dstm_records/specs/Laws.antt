@@ -1,6 +1,7 @@
 -- Laws of the records of a run: what the calls of the callers of each round come to.
-use Rattle.std.specs.Prelude.{◌≡◌, ◌≢◌, ◌⊎◌, ℕ, ◌<◌, List, ◌∷◌, ◌++◌, All}
+use Rattle.std.specs.Prelude.{◌≡◌, ◌≢◌, ◌⊎◌, ℕ, ◌<◌, true, List, ◌∷◌, ◌++◌, All}
 use Rattle.dstm_machines.specs.Traces.{Each, events_of}
+use Rattle.dstm_core.specs.Events.{Event}
 use Rattle.dstm_core.specs.Runs.{local}
 use Rattle.dstm_core.specs.declared.event.Kind.TheVariants.{Kill}
 use Rattle.dstm_core.specs.declared.shape.Manager.TheVariants.{Greedy}
@@ -8,6 +9,7 @@ use Rattle.dstm_managers.specs.Choices.{started}
 use Rattle.dstm_order.specs.Made as made
 use Rattle.dstm_order.specs.Retries.{KeepsRank, TriesAgain}
 use Rattle.dstm_progress.specs.Alone.{Made, all_events}
+use Rattle.dstm_progress.specs.Lives.{HasReadNothing}
 use Rattle.dstm_progress.specs.Oldest.{IsUntouched}
 use Rattle.dstm_tl2.specs.Sharing.{table_of}
 use Rattle.dstm_workload.specs.Workload.{IsValidWorkload}
@@ -85,3 +87,13 @@ KeepsItsRank (Tl2 r) c = Unit {0}
 
 abbrev pub EachKeepsItsRank : Type 0
 EachKeepsItsRank = OfEachCaller (λ seed. KeepsItsRank)
+
+-- WHERE ALL OPENS ARE FOR WRITING NO ATTEMPT IS STALE: at no time it has recorded a read; by TL2 reads stay reads
+abbrev pub IsNeverStale : Round → ℕ → Type 0
+IsNeverStale (Dstm r) c =
+    r.terms.shape.all_write ≡ true → (later before : List Event) → r.log ≡ later ++ before →
+    HasReadNothing (local r.terms.shape before c)
+IsNeverStale (Tl2 r) c = Unit {0}
+
+abbrev pub EachIsNeverStale : Type 0
+EachIsNeverStale = OfEachCaller (λ seed. IsNeverStale)

@@ -26,7 +26,7 @@ use Rattle.dstm_tables.specs.declared.tables.Round.TheVariants.{Dstm, Tl2}
 use Rattle.dstm_jobs.specs.Answers.{KeepsFew, StaysOut}
 use Rattle.dstm_jobs.specs.Jobs.{HadToStop, NoneWasted}
 use Rattle.dstm_jobs.specs.Tables as known
-use Rattle.dstm_tables.specs.Tells.{ByCalls, IsSpent, begun_of, callers_of, committed_of, let_go_by, start_of, values_of}
+use Rattle.dstm_tables.specs.Tells.{ByCalls, IsSpent, WasSighted, begun_of, callers_of, committed_of, let_go_by, start_of, values_of}
 use Rattle.dstm_records.specs.Rounds.{is_parallel, rows_in, left_by, has_job, workers_in, workers_left, most_jobs, attempts_for, locators_for, all_workers}
 
 -- its table has the store's law and objects, and what happened on it is a run of its engine
@@ -130,7 +130,8 @@ next_of workload rows worker = first_job worker (left_by workload rows)
 abbrev pub HadToLeave : Workload → List Row → Round → ℕ → ℕ → Type 0
 HadToLeave workload rows round worker c = HadToStop workload (next_of workload rows worker) round c
 
--- each attempt of a worker's caller committed, or was disturbed, or stood at a blocked job
+-- each attempt of a worker's caller committed, made sure of by its opens and its commit alone, or was disturbed, or stood at a
+-- blocked job; in version 3 one that was disturbed may have stood there, and no other was made sure of more often
 abbrev pub HadCause : Workload → List Row → Round → ℕ → ℕ → Type 0
 HadCause workload rows round worker c = NoneWasted workload (next_of workload rows worker) round c
 
@@ -224,6 +225,9 @@ pub record IsAlone (workload : Workload) (options : Options) (before rows : List
       → WasAsked workload before rows worker ⊎ IsSpent round 0
   -- no attempt was wasted
   pub attempts : begun_of round 0 ≤ most_tries workload before rows
+  -- each committed, made sure of by its opens and its commit alone; or it was aborted, at a blocked job, and made sure of once more
+  -- at most
+  pub sighted : (i : ℕ) → 0 < i → i ≤ begun_of round 0 → WasSighted 1 round 0 i
   -- behind a job that was done none is given up, and no worker is asked again
   pub order : IsInOrder rows
   -- it went on until a job was done, unless no job is left or the caller is spent

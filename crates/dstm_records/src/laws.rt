@@ -1,7 +1,7 @@
 //! Laws of the records of a run, however it ended: what the calls of the callers come to. Each holds of every caller of every
 //! round that has a record. The functions do nothing.
 
-ghost use Rattle.dstm_records.specs.Laws.{EachIsBoundedWhenAlone, EachIsByCalls, EachIsSafeWhenOldest, EachKeepsItsRank, EachKillsAsChosen, EachWasHandedRightly};
+ghost use Rattle.dstm_records.specs.Laws.{EachIsBoundedWhenAlone, EachIsByCalls, EachIsNeverStale, EachIsSafeWhenOldest, EachKeepsItsRank, EachKillsAsChosen, EachWasHandedRightly};
 
 /// Each caller has made its events by calls that obey the order of steps, one after the other from nothing; under DSTM from
 /// the generator of a worker's seed on.
@@ -35,4 +35,9 @@ pub fn oldest_attempts_were_safe()
 /// A retry stayed the same transaction: it drew no stamp and kept its rank.
 pub fn retries_kept_their_rank()
     ensures { EachKeepsItsRank }
+{}
+
+/// Where objects that are only read are opened for writing too, no attempt was stale: at no time it had recorded a read.
+pub fn writers_were_never_stale()
+    ensures { EachIsNeverStale }
 {}
