@@ -1,5 +1,5 @@
 -- What an attempt that did a job leaves, under either engine.
-use Rattle.std.proofs.Common.{◌≡◌, ◌∷◌, true, List, refl, subst, sym, All}
+use Rattle.std.proofs.Common.{◌≡◌, ◌∷◌, ℕ, Bool, true, List, Option, refl, subst, sym, All}
 use Rattle.dstm_model.specs.declared.value.Val.{Val}
 use Rattle.dstm_model.specs.declared.layout.Layout.{Layout}
 use Rattle.dstm_model.specs.Answers.{Committed}
@@ -25,6 +25,26 @@ use Rattle.dstm_jobs.proofs.Inside.{KeepsOutOf, inside}
 abbrev pub FewReads : Style → Job → (k n : Caller) → Type 0
 FewReads style job k n =
     style ≡ Loose → lets_go (round_of n) ≡ true → (by : Committed) → done n ≡ by ∷ done k → KeepsFew job by
+
+-- what a run has left, where less is said of it
+pub left_less : {is_right : List Val → List Val → Type 0} {leaves less : (ℕ → Option Val) → (ℕ → Bool) → Type 0} {k n : Caller}
+    {number : ℕ} → ((held : ℕ → Option Val) (opened : ℕ → Bool) → leaves held opened → less held opened) →
+    Did is_right leaves k n number → Did is_right less k n number
+left_less weaker d = record {
+  made = d.made;
+  committed = d.committed;
+  entry = d.entry;
+  newest = d.newest;
+  right = d.right;
+  left = record {
+    held = d.left.held;
+    opened = d.left.opened;
+    left = weaker d.left.held d.left.opened d.left.left;
+    reads = d.left.reads;
+    writes = d.left.writes;
+  };
+  sighted = d.sighted;
+}
 
 module _ (layout : Layout) (job : Job) (k n : Caller) (finished : Finished) (law : (law_of k).layout ≡ layout) where
   -- an attempt whose body kept out of what is foreign to the job

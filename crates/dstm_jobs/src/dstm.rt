@@ -19,43 +19,18 @@ ghost use Rattle.dstm_jobs.specs.Law.{keeps};
 ghost use Rattle.dstm_jobs.specs.OnlyCallers.{HasGivenUp};
 ghost use Rattle.dstm_jobs.specs.Rechecks.{HasRechecked, RechecksAtMost};
 ghost use Rattle.dstm_jobs.specs.Styles.{CanTry};
-ghost use Rattle.dstm_jobs.specs.declared.style.Style.TheVariants.{Branches, Loose, Plain};
+ghost use Rattle.dstm_jobs.specs.declared.style.Style.TheVariants.{Branches, Loose};
 ghost use Rattle.dstm_tables.specs.declared.tables.Caller.TheVariants.{Dstm};
 
 use crate::trying::{Finished, Tried};
 use dstm_compose::{CompBody, Outcome};
-use dstm_engine::{Caller, Ended, Kept, Opener, Spent, Stm, Tx, attempt, attempt_loose};
+use dstm_engine::{Caller, Ended, Kept, Opener, Spent, Stm, Tx, attempt_loose};
 use dstm_mem::{Body, Mem};
 use dstm_model::Layout;
 use dstm_order::Again;
-use dstm_store::{JobBody, LooseJobBody, StoreLaw};
+use dstm_store::{LooseJobBody, StoreLaw};
 use dstm_workload::Job;
 use std::marker::{Brand, PhantomData};
-
-/// Makes one attempt at a job, by its operations in order. It lets no read go.
-pub(crate) fn attempt_plain(
-    caller: &mut Caller<StoreLaw>,
-    stm: &Stm<StoreLaw>,
-    layout: &Layout,
-    job: &Job,
-) -> Tried
-    requires table { caller.old.home ≡ stm.now }
-    requires law { (law_of (Dstm caller.old)).layout ≡ layout.now }
-    requires rest { AtRest (Dstm caller.old) }
-    requires can { CanTry Plain layout.now job.now }
-    ensures tried { HasTried Plain 0 layout.now job.now (Dstm caller.old) (Dstm caller.new) result }
-    ensures keeps { let_go (Dstm caller.new) ≡ let_go (Dstm caller.old) }
-{
-    let mut body = JobBody::make(layout, &job.ops);
-    match attempt(caller, stm, &mut body) {
-        Ok(done) => Tried::Done(Finished {
-            number: done.number,
-            replies: body.into_replies(),
-        }),
-        Err(Ended::Again(_)) => Tried::Again,
-        Err(Ended::Spent) => Tried::Spent,
-    }
-}
 
 /// Makes one attempt at a job, by its operations in order, and lets reads go.
 pub(crate) fn attempt_releasing(

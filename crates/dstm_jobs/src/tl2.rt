@@ -6,40 +6,16 @@ ghost use Rattle.dstm_tables.specs.Callers.{law_of, let_go};
 ghost use Rattle.dstm_jobs.specs.Jobs.{HasTried};
 ghost use Rattle.dstm_jobs.specs.OnlyCallers.{HasGivenUp};
 ghost use Rattle.dstm_jobs.specs.Styles.{CanTry};
-ghost use Rattle.dstm_jobs.specs.declared.style.Style.TheVariants.{Branches, Plain};
+ghost use Rattle.dstm_jobs.specs.declared.style.Style.TheVariants.{Branches};
 ghost use Rattle.dstm_tables.specs.declared.tables.Caller.TheVariants.{Tl2};
 
 use crate::trying::{Finished, Tried};
 use dstm_compose::{CompBody, Outcome};
 use dstm_mem::Body;
 use dstm_model::Layout;
-use dstm_store::{JobBody, StoreLaw};
-use dstm_tl2_engine::{TlCaller, TlEnded, TlSpent, TlStm, tl_attempt};
+use dstm_store::StoreLaw;
+use dstm_tl2_engine::{TlCaller, TlSpent, TlStm};
 use dstm_workload::Job;
-
-/// Makes one attempt at a job, by its operations in order.
-pub(crate) fn attempt_plain(
-    caller: &mut TlCaller<StoreLaw>,
-    stm: &TlStm<StoreLaw>,
-    layout: &Layout,
-    job: &Job,
-) -> Tried
-    requires table { caller.old.home ≡ stm.now }
-    requires law { (law_of (Tl2 caller.old)).layout ≡ layout.now }
-    requires rest { AtRest (Tl2 caller.old) }
-    requires can { CanTry Plain layout.now job.now }
-    ensures { HasTried Plain 0 layout.now job.now (Tl2 caller.old) (Tl2 caller.new) result }
-{
-    let mut body = JobBody::make(layout, &job.ops);
-    match tl_attempt(caller, stm, &mut body) {
-        Ok(done) => Tried::Done(Finished {
-            number: done.number,
-            replies: body.into_replies(),
-        }),
-        Err(TlEnded::Again(_)) => Tried::Again,
-        Err(TlEnded::Spent) => Tried::Spent,
-    }
-}
 
 /// Makes one attempt at a job, by its first open branch. One that stands at a blocked job is given up at once.
 pub(crate) fn attempt_branches(

@@ -9,6 +9,8 @@ use crate::style::Style;
 use crate::tables::{Caller, Table};
 use crate::{dstm, tl2};
 use dstm_model::{Layout, Replies};
+use dstm_store::JobBody;
+use dstm_tables::{Ended, attempt};
 use dstm_workload::Job;
 
 /// How often a blocked attempt makes sure that what it has read stands, before it is given up.
@@ -77,15 +79,14 @@ fn attempt_plain(caller: &mut Caller, table: &Table, layout: &Layout, job: &Job)
     ensures tried { HasTried Plain 0 layout.now job.now caller.old caller.new result }
     ensures keeps { let_go caller.new ≡ let_go caller.old }
 {
-    match caller {
-        Caller::Dstm(caller) => match table {
-            Table::Dstm(stm) => dstm::attempt_plain(caller, stm, layout, job),
-            Table::Tl2(_) => unreachable!(),
-        },
-        Caller::Tl2(caller) => match table {
-            Table::Tl2(stm) => tl2::attempt_plain(caller, stm, layout, job),
-            Table::Dstm(_) => unreachable!(),
-        },
+    let mut body = JobBody::make(layout, &job.ops);
+    match attempt(caller, table, &mut body) {
+        Ok(number) => Tried::Done(Finished {
+            number,
+            replies: body.into_replies(),
+        }),
+        Err(Ended::Again) => Tried::Again,
+        Err(Ended::Spent) => Tried::Spent,
     }
 }
 
