@@ -176,8 +176,8 @@ few_push workload before (r ∷ now) row (d ∷ ds) by told all few =
     (all.0, few_push workload (before ++ r ∷ []) now row ds by told.1 all.1 few)
 
 -- a transaction that read nothing keeps few reads
-few_given : (workload : Workload) (row : Row) (by : Committed) → by.entry.reads ≡ [] → KeepsFewReads workload (row, by)
-few_given workload row by none job named on_list = let n = ap length none in omega (arith, n)
+none_read : (workload : Workload) (row : Row) (by : Committed) → by.entry.reads ≡ [] → KeepsFewReads workload (row, by)
+none_read workload row by none job named on_list = let n = ap length none in omega (arith, n)
 
 -- ---- jobs that are left
 
@@ -208,8 +208,8 @@ last_sighted {n = n} made was i late few =
     subst (WasSighted 1 (round_of n) (number_of n)) (let b = made.begun in omega (arith, b, late, few)) was
 
 -- it has begun none since
-none_sighted : {k n : Caller} → callers.begun n ≡ callers.begun k → AreSighted k n
-none_sighted same i late few = absurd (omega (arith, same, late, few))
+none_sighted : (k n : Caller) → callers.begun n ≡ callers.begun k → AreSighted k n
+none_sighted k n same i late few = absurd (omega (arith, same, late, few))
 
 -- and so were those before
 all_sighted : {k n : Caller} → AtRest k → GoesOn k n →
@@ -633,7 +633,7 @@ module _ {workload : Workload} {options : Options} {number : ℕ} {table : Table
 
       by : (now : List Row) → s.now ≡ now → HasRunAlone workload options number first n before rows turns
       by (row ∷ now) is =
-          end_by w (still s.goes was.on was.same_done (none_sighted was.begun)) s.passes (inr (inr was.spent)) s.few s.others
+          end_by w (still s.goes was.on was.same_done (none_sighted k n was.begun)) s.passes (inr (inr was.spent)) s.few s.others
           (let some_ = ap length is in omega (arith, some_)) (λ v below had. inr was.spent) tries
       by [] is = absurd (not_spent s.goes.on (s.unused is) (few is) was.was)
 
@@ -673,7 +673,7 @@ module _ {workload : Workload} {options : Options} {number : ℕ} {table : Table
       record {
         now = s.now ++ row ∷ [];
         goes = row_goes gave.by row job s.goes gave.made gave.newest (inl (gave.committed, gave.few_sights)) here line round
-            (drew ∙ gave.drew) (inr given) (λ releasing. few_given workload row gave.by gave.nothing_read) turned;
+            (drew ∙ gave.drew) (inr given) (λ releasing. none_read workload row gave.by gave.nothing_read) turned;
         passes = passes_given row (ap is_given_up replies) s.passes;
         few = λ v below. absurd (omega (arith, below));
         others = λ v past.

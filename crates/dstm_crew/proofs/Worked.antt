@@ -261,9 +261,9 @@ module _ (workload : Workload) (options : Options) (old new : Worker) (unbegun :
       ))
 
   -- as often as by another style of this version
-  same_since : (release : Bool) {n : Caller} (most : ℕ) →
+  same_since : (release : Bool) (n : Caller) (most : ℕ) →
       NoneWastedSince (style_of workload.version release) n new.caller most → NoneWastedSince style n new.caller most
-  same_since release most none i after before =
+  same_since release n most none i after before =
       subst (λ (rechecks : ℕ). WasNotWasted rechecks new.caller i)
       (rechecks_are workload.version release ∙ sym (rechecks_are workload.version (releases options))
       ∙ ap (λ (s : Style). rechecks_by s 1024) (sym is_style)) (none i after before)
@@ -312,7 +312,7 @@ module _ (workload : Workload) (options : Options) (old new : Worker) (unbegun :
     done = still_done stands was.same_done;
     none_wasted = λ i some few.
         not_wasted i (then_none style (begun new.caller) stands.on was.on stands.none_wasted
-        (same_since release (begun new.caller) was.none_wasted) i (omega arith) few);
+        (same_since release n (begun new.caller) was.none_wasted) i (omega arith) few);
     left = λ few. inl was.spent;
     few_reads = same_few stands was.on was.same_done;
   }
@@ -346,7 +346,7 @@ module _ (workload : Workload) (options : Options) (old new : Worker) (unbegun :
           inr (inr (subst (Waited workload next (round_of new.caller) (number_of new.caller)) (sym last) waited))
       by i some few (inr other) =
           not_wasted i (then_none style was.last stands.on was.on stands.none_wasted
-          (same_since release was.last was.none_wasted) i
+          (same_since release n was.last was.none_wasted) i
           (omega arith) (let b = was.is_last in omega arith))
 
   -- why ever it left the job that is next
