@@ -1,5 +1,5 @@
 -- Numbers at the front of a line.
-use Rattle.std.proofs.Common.{◌≡◌, ◌≢◌, ℕ, zero, suc, subst, ◌+◌, ◌-◌, ◌*◌, ◌<◌, ◌≤◌, true, List, [], ◌∷◌, length, take, get_or, Some, refl, sym, ap, ◌∙◌, inl, inr, arith}
+use Rattle.std.proofs.Common.{◌≡◌, ℕ, zero, suc, subst, ◌+◌, ◌-◌, ◌*◌, ◌<◌, ◌≤◌, true, List, [], ◌∷◌, length, take, drop, get_or, Some, refl, sym, ap, ◌∙◌, inl, inr, arith}
 use Rattle.std.proofs.lemmas.Bool.{and_from, cases_lt, eq-eqb, eqb-true}
 use Rattle.std.proofs.lemmas.Bool.Decides.{nat_tests}
 use Rattle.std.proofs.lemmas.List.{get_or-take, length-take-le, take_all}
@@ -10,9 +10,9 @@ use Rattle.std.specs.Char.{is_ascii_digit}
 use Rattle.std.specs.Str.{all_ascii_digits}
 use Rattle.std.specs.Str.Parse.{digits_value}
 use Rattle.memchr.specs.Find.{NoneBefore, Passes, is_byte}
-use Rattle.dstm_text.specs.Lines.{pieces, space}
-use Rattle.dstm_text.specs.Number.{AreAtFront, StandsBeforeSpace, number_of}
-use Rattle.dstm_text.proofs.LineLaws.{pieces_at, pieces_none}
+use Rattle.dstm_text.specs.Lines.{fields_of, non_empty, pieces, space}
+use Rattle.dstm_text.specs.Number.{AreAtFront, IsNumberBefore, StandsBeforeSpace, StandsBehind, number_of}
+use Rattle.dstm_text.proofs.LineLaws.{kept, pieces_at, pieces_none}
 use Rattle.dstm_text.proofs.NumberLaws.{digit_value_is, number_is, plain_from}
 
 pub front_none : (line : List ℕ) → AreAtFront line 0 0
@@ -71,26 +71,45 @@ clear line place number k stands below is =
     let same = eqb-true (get_or line k 0) space is in
     omega (arith, range.0, range.1, same)
 
--- it is the first piece
-pub front_piece : (line : List ℕ) (place number : ℕ) (field : List ℕ) (rest : List (List ℕ)) → StandsBeforeSpace line place number →
-    pieces space line ≡ field ∷ rest → field ≡ take place line
-front_piece line place number field rest stands cut =
-    elim (cases_lt place (length line)) [
-      | inl lt ↦
-          let first : NoneBefore (Passes (is_byte space) line) 0 (length line) place =
-          record { low = omega arith; high = lt; before = λ k low below. clear line place number k stands below } in
-          let mine = pieces_at space line place first (eq-eqb (get_or line place 0) space (stands.behind lt)) in
-          let both = sym cut ∙ mine in cc
-      | inr le ↦
-          let mine = pieces_none space line (λ k low below. clear line place number k stands (omega (arith, below, le))) in
-          let both = sym cut ∙ mine in
-          let whole = take_all place line le in cc
-    ]
+-- it is the first field, and the others are those of what stands behind it
+pub fields_behind : (line : List ℕ) (place number : ℕ) (rest : List ℕ) → StandsBeforeSpace line place number →
+    StandsBehind line place rest → fields_of line ≡ take place line ∷ fields_of rest
+fields_behind line place number rest stands (inl end) =
+    let whole : take place line ≡ line = take_all place line (omega (arith, end.0)) in
+    let one = pieces_none space line (λ k low below. clear line place number k stands (omega (arith, below, end.0))) in
+    ap non_empty one ∙ kept line [] (omega (arith, stands.some, end.0))
+    ∙ ap (λ (l : List ℕ). l ∷ []) (sym whole) ∙ ap (λ (r : List ℕ). take place line ∷ fields_of r) (sym end.1)
+fields_behind line place number rest stands (inr cut) =
+    let first : NoneBefore (Passes (is_byte space) line) 0 (length line) place =
+    record { low = omega arith; high = cut.0; before = λ k low below. clear line place number k stands below } in
+    let long = length-take-le place line stands.front.within in
+    ap non_empty (pieces_at space line place first (eq-eqb (get_or line place 0) space cut.1.0))
+    ∙ kept (take place line) (pieces space (drop (place + 1) line)) (omega (arith, stands.some, long))
+    ∙ ap (λ (r : List ℕ). take place line ∷ fields_of r) (sym cut.1.1)
 
--- its first byte is no space
-pub front_solid : (line : List ℕ) (place number : ℕ) → StandsBeforeSpace line place number → (b : ℕ) (bytes : List ℕ) →
-    line ≡ b ∷ bytes → b ≢ space
-front_solid line place number stands b bytes is same =
-    let range = stands.front.digits 0 stands.some in
-    let first : get_or line 0 0 ≡ b = ap (λ (l : List ℕ). get_or l 0 0) is in
-    omega (arith, range.0, range.1, first, same)
+-- a space, if the line does not end there
+pub behind_is_space : (line : List ℕ) (place : ℕ) (rest : List ℕ) → StandsBehind line place rest →
+    place < length line → get_or line place 0 ≡ space
+behind_is_space line place rest (inl end) inside = absurd (omega (arith, end.0, inside))
+behind_is_space line place rest (inr cut) inside = cut.1.0
+
+-- a digit before a space
+pub one_digit : (digit : ℕ) (rest : List ℕ) → IsInRange 48 57 digit →
+    IsNumberBefore (digit ∷ space ∷ rest) (digit - 48) rest
+one_digit digit rest range =
+    let line : List ℕ = digit ∷ space ∷ rest in
+    let value : 0 * 10 + (digit - 48) ≡ digit - 48 = omega arith in
+    let front : AreAtFront line 1 (digit - 48) =
+    subst (λ (n : ℕ). AreAtFront line 1 n) value
+    (front_more line 0 0 (digit - 48) (front_none line) range refl (omega arith) (omega arith)) in (
+      1,
+      (
+        record {
+          front = front;
+          some = omega arith;
+          behind = λ inside. refl;
+          spelled = front_spelled line 1 (digit - 48) front (omega arith) (λ zero. refl);
+        },
+        inr (omega arith, (refl, refl)),
+      ),
+    )

@@ -93,7 +93,7 @@ not_empty : (bs : List ℕ) → 0 < length bs → is_empty bs ≡ false
 not_empty [] some = absurd (omega arith)
 not_empty (b ∷ bs) some = refl
 
-kept : (field : List ℕ) (fields : List (List ℕ)) → 0 < length field →
+pub kept : (field : List ℕ) (fields : List (List ℕ)) → 0 < length field →
     non_empty (field ∷ fields) ≡ field ∷ non_empty fields
 kept field fields some = rw (not_empty field some) refl
 

@@ -1,5 +1,5 @@
 -- Plain decimals: one spelling for each number.
-use Rattle.std.specs.Prelude.{◌≡◌, ℕ, ◌^◌, ◌<◌, ◌≤◌, Bool, false, not, ◌==◌, ◌&&◌, ◌||◌, nat_le, List, [], length, take, slice_index}
+use Rattle.std.specs.Prelude.{◌≡◌, ◌⊎◌, ℕ, ◌+◌, ◌^◌, ◌<◌, ◌≤◌, Bool, false, not, ◌==◌, ◌&&◌, ◌||◌, nat_le, List, [], length, take, drop, slice_index}
 use Rattle.std.specs.Prelude.{◌∷◌, Option, Some, None, Result, Ok, Err, if◌then◌else◌}
 use Rattle.std.specs.Str.{all_ascii_digits}
 use Rattle.std.specs.Str.Parse.{digits_value}
@@ -36,3 +36,14 @@ pub record StandsBeforeSpace (line : List ℕ) (place number : ℕ) : Type 0 whe
   pub some : 0 < place
   pub behind : place < length line → slice_index line place ≡ space
   pub spelled : number_of (take place line) ≡ Some number
+
+-- what stands behind a place of a line, where it ends or has a space
+abbrev pub StandsBehind : List ℕ → ℕ → List ℕ → Type 0
+StandsBehind line place rest =
+    ((place ≡ length line) × (rest ≡ []))
+    ⊎ ((place < length line) × ((slice_index line place ≡ space) × (rest ≡ drop (place + 1) line)))
+
+-- a number is spelled at the front of a line, and what stands behind the place where it ends
+abbrev pub IsNumberBefore : List ℕ → ℕ → List ℕ → Type 0
+IsNumberBefore line number rest =
+    (place : ℕ) × (StandsBeforeSpace line place number × StandsBehind line place rest)

@@ -8,5 +8,5 @@ mod sections;
 
 pub use lines::{Fields, Lines, Pieces};
 pub use number::{DecimalError, decimal};
-pub use print::{one_spelling, push_decimal};
+pub use print::{one_spelling, push_decimal, put_decimal};
 pub use sections::split_at_line;

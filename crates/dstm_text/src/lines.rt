@@ -3,7 +3,7 @@ ghost use Rattle.memchr.specs.Find.{IsFirstByte, is_byte};
 ghost use Rattle.dstm_text.specs.Lines.{pieces, pieces_left, lines_of, fields_of, space};
 ghost use Rattle.dstm_text.specs.Number.{number_of};
 
-use crate::number::number_before_space;
+use crate::number::{digit_before_space, number_before_space};
 use memchr::memchr;
 use std::marker::Model;
 
@@ -154,14 +154,12 @@ impl<'a> Fields<'a> {
             × ((self.old ≡ field ∷ self.new) × (number_of field ≡ Some n))) }
         ensures none { IfNone result (self.new ≡ self.old) }
     {
-        let (number, end) = number_before_space(self.rest)?;
-        let place = if end < self.rest.len() {
-            Some(end)
-        } else {
-            None
-        };
-        let (_, rest) = first_piece(self.rest, b' ', place);
-        let behind = rest.unwrap_or(&[]);
+        // Most numbers have one digit.
+        if let Some((number, behind)) = digit_before_space(self.rest) {
+            self.rest = behind;
+            return Some(number);
+        }
+        let (number, behind) = number_before_space(self.rest)?;
         self.rest = behind;
         Some(number)
     }

@@ -4,8 +4,7 @@ ghost use Rattle.std.specs.Char.{is_ascii_digit};
 ghost use Rattle.std.specs.List.{list_all};
 ghost use Rattle.std.specs.Str.{all_ascii_digits};
 ghost use Rattle.std.specs.Str.Parse.{digits_value};
-ghost use Rattle.dstm_text.specs.Lines.{space};
-ghost use Rattle.dstm_text.specs.Number.{AreAtFront, StandsBeforeSpace, number_of, in_64_bits};
+ghost use Rattle.dstm_text.specs.Number.{AreAtFront, IsNumberBefore, StandsBehind, number_of, in_64_bits};
 
 // So many digits fit into 64 bits, whichever they are.
 const SHORT: usize = 19;
@@ -73,23 +72,28 @@ fn with_digit(number: u64, digit: u8) -> Option<u64>
         .checked_add(u64::from(digit.saturating_sub(b'0')))
 }
 
-// The number at the front of a line, and where it ends: at a space, or at the line's end.
+// The number at the front of a line, before a space or at the line's end, and what stands behind that.
 #[inline(always)]
-pub(crate) fn number_before_space(line: &[u8]) -> Option<(u64, usize)>
-    ensures { IfSome result (λ r. StandsBeforeSpace line.now r.1 r.0) }
+pub(crate) fn number_before_space(line: &[u8]) -> Option<(u64, &[u8])>
+    ensures { IfSome result (λ r. IsNumberBefore line.now r.0 r.1.now) }
 {
-    // Most numbers have one digit.
-    if let [digit @ b'0'..=b'9', b' ', ..] = line {
-        return Some((u64::from(*digit - b'0'), 1));
-    }
     let (number, end) = digits_at_front(line);
     if !is_plain(line, end) {
         return None;
     }
-    if !ends_at(line, end) {
-        return None;
+    let behind = behind_place(line, end)?;
+    Some((number, behind))
+}
+
+// The same of one digit before a space.
+#[inline(always)]
+pub(crate) fn digit_before_space(line: &[u8]) -> Option<(u64, &[u8])>
+    ensures { IfSome result (λ r. IsNumberBefore line.now r.0 r.1.now) }
+{
+    match line {
+        [digit @ b'0'..=b'9', b' ', behind @ ..] => Some((u64::from(*digit - b'0'), behind)),
+        _ => None,
     }
-    Some((number, end))
 }
 
 // The number of the digits at the front of a line, of which few are looked at, and where they end.
@@ -120,13 +124,17 @@ fn is_plain(line: &[u8], digits: usize) -> bool
     }
 }
 
-// Whether a space or the line's end is at a place.
+// What stands behind a place, if the line ends there or has a space.
 #[inline(always)]
-fn ends_at(line: &[u8], place: usize) -> bool
-    ensures { OnTrue result (place < length line.now → slice_index line.now place ≡ space) }
+fn behind_place(line: &[u8], place: usize) -> Option<&[u8]>
+    requires { place ≤ length line.now }
+    ensures { IfSome result (λ rest. StandsBehind line.now place rest.now) }
 {
-    match line.get(place) {
-        Some(byte) => *byte == b' ',
-        None => true,
+    if place == line.len() {
+        return Some(&[]);
     }
+    if line[place] != b' ' {
+        return None;
+    }
+    Some(&line[place + 1..])
 }

@@ -1,4 +1,4 @@
-ghost use Rattle.std.specs.Prelude.{◌≡◌, ◌<◌, ◌≤◌, ◌+◌, ◌^◌, ◌++◌, ℕ, List, Some, OnOk, OnErr, decimal};
+ghost use Rattle.std.specs.Prelude.{◌≡◌, ◌<◌, ◌≤◌, ◌+◌, ◌/◌, ◌%◌, ◌^◌, ◌++◌, ℕ, List, Some, OnOk, OnErr, decimal, length, vec_capacity, vec_len};
 ghost use Rattle.dstm_text.specs.Number.{number_of};
 
 use itoa::Buffer;
@@ -41,6 +41,96 @@ fn push_digits(out: &mut Vec<u8>, number: u64) -> Result<(), AllocError>
         return out.extend_from_slice(&[thousands, hundreds, tens, ones]);
     }
     out.extend_from_slice(&[digit(number / 10_000), thousands, hundreds, tens, ones])
+}
+
+/// Appends a number as a plain decimal, where there is room for any.
+#[inline(always)]
+pub fn put_decimal(out: &mut Vec<u8>, number: u64)
+    requires room { vec_len out.old + 20 ≤ vec_capacity out.old }
+    ensures items { out.new.items ≡ out.old.items ++ decimal number }
+    ensures len { vec_len out.new ≤ vec_len out.old + 20 }
+    ensures capacity { vec_capacity out.new ≡ vec_capacity out.old }
+{
+    if number < 10 {
+        out.push_reserved(b'0' + number as u8);
+    } else if number < 100_000 {
+        put_digits(out, number as u32);
+    } else {
+        put_any(out, number);
+    }
+}
+
+// The same of two digits to five.
+#[inline(always)]
+fn put_digits(out: &mut Vec<u8>, number: u32)
+    requires least { 10 ≤ number }
+    requires most { number < 100000 }
+    requires room { vec_len out.old + 5 ≤ vec_capacity out.old }
+    ensures items { out.new.items ≡ out.old.items ++ decimal number }
+    ensures len { vec_len out.new ≤ vec_len out.old + 5 }
+    ensures capacity { vec_capacity out.new ≡ vec_capacity out.old }
+{
+    let (tenth, ones) = last_digit(number);
+    let (hundredth, tens) = last_digit(tenth);
+    if number < 100 {
+        out.push_reserved(tens);
+        out.push_reserved(ones);
+        return;
+    }
+    let (thousandth, hundreds) = last_digit(hundredth);
+    if number < 1_000 {
+        out.push_reserved(hundreds);
+        out.push_reserved(tens);
+        out.push_reserved(ones);
+        return;
+    }
+    let (first, thousands) = last_digit(thousandth);
+    if number < 10_000 {
+        out.push_reserved(thousands);
+        out.push_reserved(hundreds);
+        out.push_reserved(tens);
+        out.push_reserved(ones);
+        return;
+    }
+    out.push_reserved(digit(first));
+    out.push_reserved(thousands);
+    out.push_reserved(hundreds);
+    out.push_reserved(tens);
+    out.push_reserved(ones);
+}
+
+// The number without its last digit, and the code of that one.
+#[inline(always)]
+fn last_digit(number: u32) -> (u32, u8)
+    ensures rest { result.0 ≡ number / 10 }
+    ensures digit { result.1 ≡ 48 + number % 10 }
+{
+    let rest = number / 10;
+    (rest, digit(number - rest * 10))
+}
+
+// The same of any number.
+#[inline(always)]
+fn put_any(out: &mut Vec<u8>, number: u64)
+    requires room { vec_len out.old + 20 ≤ vec_capacity out.old }
+    ensures items { out.new.items ≡ out.old.items ++ decimal number }
+    ensures len { vec_len out.new ≤ vec_len out.old + 20 }
+    ensures capacity { vec_capacity out.new ≡ vec_capacity out.old }
+{
+    let mut buffer = Buffer::new();
+    for byte in digits_of(&mut buffer, number) {
+        out.push_reserved(*byte);
+    }
+}
+
+// The digits of a number.
+#[cold]
+#[inline(never)]
+fn digits_of(buffer: &mut Buffer, number: u64) -> &[u8]
+    ensures digits { result.now ≡ decimal number }
+    ensures short { length result.now ≤ 20 }
+{
+    buffer.format(number).as_bytes()
 }
 
 // The code of a digit.

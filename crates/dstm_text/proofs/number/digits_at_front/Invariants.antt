@@ -1,4 +1,4 @@
-use Rattle.std.proofs.Common.{◌≤◌, ◌-◌}
+use Rattle.std.proofs.Common.{◌-◌}
 use Rattle.dstm_text.specs.Number.{AreAtFront}
 use Rattle.dstm_text.proofs.number.digits_at_front.Given as goal
 

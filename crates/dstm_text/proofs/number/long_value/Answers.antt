@@ -1,6 +1,5 @@
-use Rattle.std.proofs.Common.{◌+◌, ◌^◌, ◌<◌, sym, ap, ◌∙◌, subst, Option, SomeIff, ℕ, arith}
+use Rattle.std.proofs.Common.{◌+◌, ◌^◌, ◌<◌, sym, subst, Option, SomeIff, ℕ, arith}
 use Rattle.std.specs.Str.Parse.{digits_value}
-use Rattle.std.proofs.lemmas.List.{take_all}
 use Rattle.dstm_text.proofs.NumberLaws.{value_more, value_take_le}
 use Rattle.dstm_text.proofs.number.long_value.Goals as goal
 

@@ -4,7 +4,7 @@ use Rattle.std.proofs.lemmas.Bool.{eqb-true, eqb-false}
 use Rattle.std.specs.Str.{bytes_eq}
 use Rattle.memchr.specs.Find.{IsFirstByte, is_byte}
 use Rattle.dstm_text.specs.Lines.{lines_of, line_feed}
-use Rattle.dstm_text.proofs.LineSearch.{Split, searched-none, searched-more, found, found_last, absent_empty, absent_other}
+use Rattle.dstm_text.proofs.LineSearch.{Split, searched-more, found, found_last, absent_empty, absent_other}
 use Rattle.dstm_text.proofs.sections.split_at_line.Goals.{In-Some, In_default}
 use Rattle.dstm_text.proofs.sections.split_at_line.Goals as goal
 
