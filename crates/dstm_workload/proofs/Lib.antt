@@ -12,3 +12,4 @@ pub mod TextAgain
 pub mod RefusedLaws
 pub mod Before
 pub mod NumbersRead
+pub mod CleanLines

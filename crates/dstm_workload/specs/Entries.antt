@@ -1,9 +1,9 @@
 -- What one line tells, given what the lines before it have told.
-use Rattle.std.specs.Prelude.{ℕ, ◌-◌, ◌==◌, Bool, true, false, ◌&&◌, nat_lt, nat_le, List, [], ◌∷◌, Option}
+use Rattle.std.specs.Prelude.{ℕ, ◌-◌, ◌==◌, Bool, true, false, ◌&&◌, ◌||◌, nat_lt, nat_le, List, [], ◌∷◌, Option}
 use Rattle.std.specs.Prelude.{Some, None, Result, Ok, Err, is_some, unwrap_or, codes, if◌then◌else◌}
 use Rattle.std.specs.Str.{bytes_eq}
 use Rattle.std.specs.List.{list_all}
-use Rattle.dstm_text.specs.Lines.{fields_of}
+use Rattle.dstm_text.specs.Lines.{fields_of, line_feed}
 use Rattle.dstm_text.specs.Number.{number_of}
 use Rattle.dstm_workload.specs.declared.refused.Why.{Why}
 use Rattle.dstm_workload.specs.declared.refused.Why.TheVariants.{Header, Bytes, Unknown, Missing, Twice, Late, TooMany}
@@ -26,6 +26,13 @@ is_comment (b ∷ line) = b == 35
 -- a byte that a line may hold
 abbrev pub is_printable : ℕ → Bool
 is_printable b = nat_le 32 b && nat_le b 126
+
+-- a byte of a text whose lines are all printable
+abbrev pub is_clean : ℕ → Bool
+is_clean b = is_printable b || b == line_feed
+
+abbrev pub are_printable : List (List ℕ) → Bool
+are_printable lines = list_all (λ line. list_all is_printable line) lines
 
 -- the version of the header with these fields: `dstm` and 1, 2 or 3
 abbrev pub version_in : Option ℕ → Option ℕ

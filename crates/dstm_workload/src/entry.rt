@@ -1,4 +1,4 @@
-ghost use Rattle.std.specs.Prelude.{◌≡◌, ◌<◌, ◌∷◌, [], Some, vec_len, vec_capacity};
+ghost use Rattle.std.specs.Prelude.{◌≡◌, ◌<◌, ◌∷◌, [], Some, true, vec_len, vec_capacity};
 ghost use Rattle.std.specs.List.{list_all};
 ghost use Rattle.dstm_text.specs.Results.{IsRead};
 ghost use Rattle.dstm_workload.specs.Known.{kept_where, kept_if_told};
@@ -17,8 +17,15 @@ use dstm_text::{Fields, decimal};
 
 /// Keeps what a line tells, a job in the room behind the others. It is read where it stands.
 #[tactic(auto, unfolding(crate::specs::Entries::entry_of))]
-pub fn entry(known: &mut Known, jobs: &mut Vec<Job>, line: u64, text: &[u8]) -> Result<(), Why>
-    requires { vec_len jobs.old < vec_capacity jobs.old }
+pub fn entry(
+    known: &mut Known,
+    jobs: &mut Vec<Job>,
+    line: u64,
+    text: &[u8],
+    clean: bool,
+) -> Result<(), Why>
+    requires room { vec_len jobs.old < vec_capacity jobs.old }
+    requires clean { clean ≡ true → list_all is_printable text.now ≡ true }
     ensures { IsRead result (λ _. (known.new, jobs.new.items))
         (kept_if_told known.old jobs.old.items (entry_of known.old line text.now)) }
 {
@@ -29,7 +36,7 @@ pub fn entry(known: &mut Known, jobs: &mut Vec<Job>, line: u64, text: &[u8]) -> 
     let Some(first) = first_field(&mut fields) else {
         return Ok(());
     };
-    if !is_printable(text) {
+    if !is_line_printable(text, clean) {
         return Err(Why::Bytes);
     }
     match known.version {
@@ -59,6 +66,15 @@ fn is_printable(text: &[u8]) -> bool
         printable &= (b' '..=b'~').contains(byte);
     }
     printable
+}
+
+// The same of a line that may be known to be printable.
+#[inline(always)]
+fn is_line_printable(text: &[u8], known: bool) -> bool
+    requires { known ≡ true → list_all is_printable text.now ≡ true }
+    ensures { result ≡ list_all is_printable text.now }
+{
+    known || is_printable(text)
 }
 
 // The version of a header, of which the first field was taken.

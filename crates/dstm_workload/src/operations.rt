@@ -241,6 +241,7 @@ fn place(fields: &mut Fields<'_>, known: &Known, version: u32) -> Result<(Which,
     Ok((which, key))
 }
 
+#[inline(always)]
 #[tactic(auto, unfolding(crate::specs::Operations::structure_at))]
 fn structure(fields: &mut Fields<'_>, known: &Known, version: u32) -> Result<Which, Why>
     ensures { IsRead result (λ w. (w, fields.new)) (structure_at version known.now fields.old) }
