@@ -164,7 +164,8 @@ impl<L: Law> TlCaller<L> {
         if let Some(value) = self.opened.value(o) {
             return Ok(value);
         }
-        self.read_first(stm, o)
+        let value = self.read_first(stm, o)?;
+        Ok(value)
     }
 
     // Opens an object for reading and writing, with the same answer.

@@ -1,6 +1,5 @@
-use Rattle.std.proofs.Common.{◌∙◌, ◌≡◌, None, Some, ap, subst, sym}
+use Rattle.std.proofs.Common.{◌∙◌, ◌≡◌, None, ap, subst, sym}
 use Rattle.std.specs.Option.{option_or}
-use Rattle.std.proofs.lemmas.Result.{IfOk-weaker}
 use Rattle.dstm_tl2_engine.proofs.Opens.{handed_held, hands, held_opened, none_some, unhanded_unheld, unset_unheld}
 use Rattle.dstm_tl2_engine.specs.Attempts.{Seen}
 use Rattle.dstm_tl2_engine.specs.Callers.{TlCalled, handed, held, written}
@@ -35,10 +34,15 @@ returns-clause-again g c some =
     absurd (none_some (held c.args.self.now c.args.o)
     (unheld g (goal.at.returns-clause-again g c).After-value c.in_default.is) some)
 
-pub returns-clause-answered : goal.returns-clause-answered
-returns-clause-answered g c some =
+pub returns-in_err-value-clause-again : goal.returns-in_err-value-clause-again
+returns-in_err-value-clause-again g c some =
     absurd (none_some (held c.args.self.now c.args.o)
-    (unheld g (goal.at.returns-clause-answered g c).After-value c.in_default.is) some)
+    (unheld g (goal.at.returns-in_err-value-clause-again g c).After-value c.in_default.is) some)
+
+pub returns-in_err-value-clause-answered : goal.returns-in_err-value-clause-answered
+returns-in_err-value-clause-answered g c some =
+    absurd (none_some (held c.args.self.now c.args.o)
+    (unheld g (goal.at.returns-in_err-value-clause-answered g c).After-value c.in_default.is) some)
 
 pub returns-in-Some-clause-seen : goal.returns-in-Some-clause-seen
 returns-in-Some-clause-seen g c = subst (Seen g.L.Law.holds) c.self.view_is c.self.invariant.seen
@@ -50,5 +54,4 @@ returns-clause-value g c =
     let unset : written n c.args.o ≡ None = ap (λ (k : TlCalled _). written k c.args.o) c.read_first.ensures.kept
     ∙ unset_unheld c.self.invariant c.self.view_is c.args.o
     (unheld g (goal.at.returns-clause-value g c).After-value c.in_default.is) in
-    IfOk-weaker c.read_first.result (λ v. Some v ≡ held n c.args.o) (λ v. Some v ≡ handed n c.args.o)
-    (λ v read. read ∙ ap (λ w. option_or w (held n c.args.o)) (sym unset)) c.read_first.ensures.value
+    c.in_ok-value.ensures.value ∙ ap (λ w. option_or w (held n c.args.o)) (sym unset)
