@@ -6,8 +6,10 @@
       --only WORD,WORD                  those of functions whose file or name has one of these words
       --shape SHAPE                     those of one shape: twice, more, result, argument, loop, early, option, constant
       --most N                          so many of each crate, evenly spread
-      --seconds N                       a body is not judged where its checks take longer
+      --many N                          so many in one check, 24 where none are told
+      --seconds N                       a body is not judged where a check of it alone takes longer
       --jobs N                          the jobs of each check
+      --behind FILE                     those that FILE, what an earlier run wrote, does not judge
 """
 
 import argparse
@@ -25,8 +27,12 @@ from pathlib import Path
 TOP = Path(__file__).resolve().parent.parent
 KINDS = ["clause", "open", "elsewhere", "proved", "no source", "not judged"]
 # The texts of the files that a body changes, and the function to check (none where many functions cite what it turns).
-Body = namedtuple("Body", "shape texts only note")
-Function = namedtuple("Function", "name types returns begin end")
+# A body that can stand in a copy of its function, beside it, has this copy; it is checked together with others.
+Body = namedtuple("Body", "shape texts only note copy")
+# The file, where the copy stands in it, its text before and behind its name, that of the function as it is behind its
+# name, and the folder of its proof files.
+Copy = namedtuple("Copy", "file at head name tail same proofs")
+Function = namedtuple("Function", "name types returns begin end start named block")
 # The variants of each enum that hold nothing, and the fields that are truth values.
 ENUMS, BOOLS = {}, set()
 NAMES = re.compile(r"has no field|is not in scope|has no `|was not admitted|not checked|is no name")
@@ -71,8 +77,28 @@ def functions_of(mask, text):
             types = [part.split(":", 1) for part in parts_of(mask, mask, given + 1, close_of(mask, given) - 1)]
             types = {part[0].removeprefix("mut "): part[1].strip() for part in types if len(part) == 2}
             end = close_of(mask, opens.start()) - 1
-            found.append(Function(it[1], types, returns[1].strip() if returns else "", opens.end(), end))
+            start = 1 + max(mask.rfind(mark, 0, it.start()) for mark in "{};")
+            blocks = re.finditer(r"(?m)^(?:pub )?(?:impl|trait)\b[^{;]*\{", mask[: it.start()])
+            block = [on[0] for on in blocks if close_of(mask, on.end() - 1) > it.start()]
+            returns = returns[1].strip() if returns else ""
+            found.append(Function(it[1], types, returns, opens.end(), end, start, it.start(1), "".join(block)))
     return found
+
+
+def copy_of(crate, file, f, text, turned):
+    """Returns the copy of a function in which the body is the one of this text, or nothing for a method of a trait."""
+    if re.search(r"\bfor\b|\btrait\b", f.block) or "#[cycle" in text[f.start : f.named]:
+        return None
+    module = file.relative_to(crate / "src").with_suffix("").as_posix()
+    module = crate / "proofs" / re.sub(r"^(lib|main)$|/?\bmod$", "", module)
+    # (the folder of a function that calls itself has a mark before its name)
+    proofs = [*module.glob(f"*/{f.name}"), *module.glob(f"*/+{f.name}")] if f.block else []
+    proofs = [it for it in proofs if re.search(rf"\b{it.parent.name}\b", f.block)]
+    proofs += [it for it in (module / f.name, module / f"+{f.name}") if it.is_dir()]
+    end = f.end + len(turned) - len(text)
+    behind, folder = f.named + len(f.name), proofs[0] if proofs else None
+    head, same = text[f.start : f.named], text[behind : f.end + 1]
+    return Copy(file, f.end + 1, head, f.name, turned[behind : end + 1], same, folder)
 
 
 def statements_of(mask, begin, end):
@@ -191,16 +217,17 @@ def constants(crate, file, text, mask, place):
     functions = functions_of(mask, text)
     for it in re.finditer(r"(?<![\w.])(\d[\d_]*)(?![\w.]*\w)", mask):
         value, line = int(it[1].replace("_", "")), mask[: it.start()].rsplit("\n", 1)[-1]
-        inside = [f.name for f in functions if f.begin <= it.start() < f.end]
+        inside = [f for f in functions if f.begin <= it.start() < f.end]
         if value < 2 or not (inside or re.search(r"\bconst \w+:", line)):
             continue
         said = re.compile(rf"(?<![\w.]){value}(?![\w.])")
         for new in dict.fromkeys([value + 1, 1]):
-            turned = {file: text[: it.start(1)] + str(new) + text[it.end(1) :]}
+            turned = text[: it.start(1)] + str(new) + text[it.end(1) :]
             note = f"{place(it.start())} {line.strip()} {it[1]}: {new}"
-            yield Body("constant", turned, inside[0] if inside else None, note)
+            copy = copy_of(crate, file, inside[0], text, turned) if inside else None
+            yield Body("constant", {file: turned}, inside[0].name if inside else None, note, copy)
             if both := {path: said.sub(str(new), was) for path, was in specs.items() if said.search(was)}:
-                yield Body("constant", {**turned, **both}, None, f"{note}, and in specs/")
+                yield Body("constant", {file: turned, **both}, None, f"{note}, and in specs/", None)
 
 
 def bodies_of(crate):
@@ -221,7 +248,8 @@ def bodies_of(crate):
                     note = f"{place(start)} {f.name}: {'before ' * (start == end)}{was}: {' '.join(new.split())}"
                     if turned != text and turned not in seen:
                         seen.add(turned)
-                        found.append(Body(shape.__name__, {file: turned}, f.name, note))
+                        copy = copy_of(crate, file, f, text, turned)
+                        found.append(Body(shape.__name__, {file: turned}, f.name, note, copy))
         found += constants(crate, file, text, mask, place)
     return found
 
@@ -233,6 +261,18 @@ def below(name):
     for it in found:
         found += [that for that in on.get(it, []) if that in on and that not in found]
     return found
+
+
+def parts_of_check(said, names, lines):
+    """Returns what a check says of each of these functions: of what lies in its lines, and in its own proof files."""
+    parts = {name: [] for name in names}
+    for line in said.split("\n"):
+        note = re.match(r"note: (?:\./)?(src/\S+?):(\d+):", line)
+        about = re.match(r"(?:\./)?proofs/\S*/\+?(\w+_plant\d+)/|fn \S+?::\+?(\w+_plant\d+)\b", line)
+        name = lines.get((note[1], int(note[2]))) if note else about and (about[1] or about[2])
+        if name in parts:
+            parts[name].append(line)
+    return {name: "\n".join(part) for name, part in parts.items()}
 
 
 class Room:
@@ -254,7 +294,7 @@ class Room:
         how = {"cwd": self.crate, "stdout": subprocess.PIPE, "stderr": subprocess.STDOUT, "encoding": "utf-8"}
         ran = subprocess.Popen(["rt", "check", *words, *self.jobs], **how, errors="replace", start_new_session=True)
         try:
-            said = ran.communicate(timeout=self.until and max(1, self.until - time.monotonic()))[0]
+            said = ran.communicate(timeout=max(1, self.until - time.monotonic()) if self.until else None)[0]
         except BaseException:
             os.killpg(ran.pid, signal.SIGKILL)
             ran.communicate()
@@ -274,36 +314,148 @@ class Room:
             (self.crate / file).write_text("\n\n".join(kept), encoding="utf-8")
         return dropped
 
-    def tried(self, body):
-        """Returns what became of a body, and by which goals."""
-        for file, text in body.texts.items():
-            (self.crate / file.relative_to(self.here)).write_text(text, encoding="utf-8")
+    def there(self, path):
+        return self.crate / path.relative_to(self.here)
+
+    def restore(self):
+        for part in [part for part in ("src", "specs", "proofs") if (self.here / part).is_dir()]:
+            shutil.copytree(self.here / part, self.crate / part, dirs_exist_ok=True)
+
+    def verdicts(self, bodies, many):
+        """Gives each body with what became of it, and by which goals."""
+        place = lambda it: it.copy and (it.copy.file, it.copy.at)
+        rights = {place(it): it._replace(copy=it.copy._replace(tail=it.copy.same)) for it in bodies if it.copy}
+        proved = {place(it) for it, kind, _ in self.by_batches([*rights.values()], many) if kind == "proved"}
+        copies = [it for it in bodies if place(it) in proved]
+        compile = self.compiled(copies)
+        yield from ((it, "no source", "") for it in copies if it not in compile)
+        yield from self.by_batches(compile, many)
+        # (where a copy of the right body is not proved, that of a wrong one shows nothing)
+        rest = [it for it in bodies if place(it) not in proved]
+        if rest and self.check()[0]:
+            sys.exit(f"edits/plant.py: {self.crate.name} is not proved as it stands")
+        yield from ((it, *self.alone(it)) for it in rest)
+
+    def by_batches(self, bodies, many):
+        batches = [bodies[at : at + many] for at in range(0, len(bodies), many)]
+        for batch in batches:
+            if (found := self.together(batch)) is None and len(batch) > 1:
+                batches += [batch[: len(batch) // 2], batch[len(batch) // 2 :]]
+            else:
+                yield from ((it, *verdict) for it, verdict in zip(batch, found or [("not judged", "its check has no end")]))
+
+    def proofs_of(self, name, copy):
+        return self.there(copy.proofs).with_name(copy.proofs.name.replace(copy.name, name))
+
+    def put(self, bodies):
+        """Puts these bodies beside their functions, as functions of other names. Gives names and the lines of each."""
+        self.restore()
+        names, lines, texts = [f"{it.copy.name}_plant{n}" for n, it in enumerate(bodies)], {}, {}
+        for name, (_, _, _, _, copy) in zip(names, bodies):
+            was, added = texts.get(copy.file) or (copy.file.read_text(encoding="utf-8"), [])
+            tail = re.sub(rf"(?<![\w.:])((?:self\.|Self::)?){copy.name}\(", rf"\1{name}(", copy.tail)
+            texts[copy.file] = was, [*added, (copy.at, name, copy.head + name + tail)]
+            if copy.proofs:
+                at = ".".join(copy.proofs.relative_to(self.here).parts)
+                # What a function names itself by is in the place of its files, and in its goals where it calls itself.
+                own = copy.name if "+" in at else re.escape(at[: -len(copy.name)]) + copy.name + r"(?=\.)"
+                shutil.copytree(copy.proofs, to := self.proofs_of(name, copy))
+                for file in to.rglob("*.antt"):
+                    text = re.sub(rf"(?<!\w){own}(?!\w)", lambda it: it[0][: -len(copy.name)] + name, file.read_text())
+                    file.write_text(text, encoding="utf-8")
+        for file, (was, added) in texts.items():
+            text, behind = "", 0
+            for at, name, said in sorted(added):
+                text, behind = text + was[behind:at], at
+                first = text.count("\n") + 1
+                text += said
+                for line in range(first, text.count("\n") + 2):
+                    lines[file.relative_to(self.here).as_posix(), line] = name
+            self.there(file).write_text(text + was[behind:], encoding="utf-8")
+        return names, lines
+
+    def take(self, names, bodies):
+        """Takes away what `put` put."""
+        for name, body in zip(names, bodies):
+            if body.copy.proofs:
+                shutil.rmtree(self.proofs_of(name, body.copy), ignore_errors=True)
+        self.restore()
+
+    def compiled(self, bodies):
+        """Returns those of these bodies that compile."""
+        while bodies:
+            names, lines = self.put(bodies)
+            said = self.check("--only", "")[1]
+            self.take(names, bodies)
+            if re.search(r"(?m)^only=", said):
+                break
+            wrong = {lines.get((file, int(at))) for file, at in re.findall(r"(?m)^(?:\./)?(src/\S+):(\d+):\d+: error", said)}
+            if not wrong & {*names}:
+                # (the error has no place in a body)
+                half = len(bodies) // 2
+                return [it for part in (bodies[:half], bodies[half:]) for it in self.compiled(part)] if half else []
+            bodies = [it for name, it in zip(names, bodies) if name not in wrong]
+        return bodies
+
+    def together(self, bodies):
+        """Returns what became of each of these bodies, which compile, or nothing if the check has no end."""
+        names, lines = self.put(bodies)
+        left, found = [*names], {}
         self.until = self.seconds and time.monotonic() + self.seconds
         try:
-            return self.judged(["--only", body.only] if body.only else [])
+            for times in range(6):
+                said = self.check(*(word for name in left for word in ("--only", name)))[1]
+                if not re.search(r"(?m)^(only=|rattle: no verdict)", said):
+                    return None
+                for name, part in parts_of_check(said, left, lines).items():
+                    if verdict := self.verdict(part, times):
+                        found[name] = verdict
+                        left.remove(name)
+                if not left:
+                    break
+            return [found.get(name, ("not judged", "its answers have no end")) for name in names]
+        except subprocess.TimeoutExpired:
+            return None
+        finally:
+            self.until = None
+            self.take(names, bodies)
+
+    def alone(self, body):
+        """Returns what became of a body, which stands in the place of the right one."""
+        for file, text in body.texts.items():
+            self.there(file).write_text(text, encoding="utf-8")
+        self.until = self.seconds and time.monotonic() + self.seconds
+        try:
+            for times in range(6):
+                status, said = self.check(*(["--only", body.only] if body.only else []))
+                if re.search(r"(?m)\berror\[[\w-]+\]|^(\./)?(src|specs)/\S+: error", said):
+                    return "no source", ""
+                if status == 0 or re.search(r"(?m)^only=(\d+) proved=\1\b", said):
+                    said += "\nfn it: proved"
+                if verdict := self.verdict(said, times):
+                    return verdict
+            return "not judged", "its answers have no end"
         except subprocess.TimeoutExpired:
             return "not judged", "its checks take longer than they may"
         finally:
-            for part in [part for part in ("src", "specs", "proofs") if (self.here / part).is_dir()]:
-                shutil.copytree(self.here / part, self.crate / part, dirs_exist_ok=True)
+            self.until = None
+            self.restore()
 
-    def judged(self, words):
-        for times in range(6):
-            status, said = self.check(*words)
-            if status == 0 or re.search(r"(?m)^only=(\d+) proved=\1\b", said):
-                return "proved", f"{times} times without answers" * bool(times)
-            if re.search(r"(?m)\berror\[[\w-]+\]|^(\./)?(src|specs)/\S+: error", said):
-                return "no source", ""
-            errors = re.findall(r"(?m)^(?:\./)?(proofs/\S+?\.antt):(\d+):\d+: error: (?:`([^`]*)`: )?(.*)", said)
-            false = [name for _, _, name, what in errors if not NAMES.search(what)]
-            # Without answers that stood in a proof file a goal that is not proved shows less.
-            is_open = times and not false
-            false += re.findall(r"note: \S+: .*? \(`(\S+)`\)", said)
-            own = [name for name in dict.fromkeys(false) if "-requires" not in name]
-            if false and (own or not errors):
-                return ("open" if is_open and own else "clause" if own else "elsewhere"), ", ".join(own or false)
-            if not self.drop([(file, int(line)) for file, line, _, _ in errors]):
-                break
+    def verdict(self, said, times):
+        """Returns what a check says of a body, or nothing if answers were taken away, so that it is to be asked again."""
+        if re.search(r"(?m)^fn \S+: proved", said) and not re.search(r"(?m)^fn \S+: (?!proved)", said):
+            return "proved", f"{times} times without answers" * bool(times)
+        errors = re.findall(r"(?m)^(?:\./)?(proofs/\S+?\.antt):(\d+):\d+: error: (?:`([^`]*)`: )?(.*)", said)
+        false = [name for _, _, name, what in errors if not NAMES.search(what)]
+        goals = re.findall(r"note: \S+: .*? \(`(\S+)`\)(.*)", said)
+        # Without answers that stood in a proof file, or at a limit, a goal that is not proved shows less.
+        is_open = not false and (times or all("gave up" in how for _, how in goals))
+        false += [name for name, _ in goals]
+        own = [name for name in dict.fromkeys(false) if "-requires" not in name]
+        if false and (own or not errors):
+            return ("open" if is_open and own else "clause" if own else "elsewhere"), ", ".join(own or false)
+        if self.drop([(file, int(line)) for file, line, _, _ in errors]):
+            return None
         return "not judged", "a proof file names what is gone" * bool(errors)
 
 
@@ -311,25 +463,28 @@ def main():
     words = argparse.ArgumentParser(description=__doc__, formatter_class=argparse.RawDescriptionHelpFormatter)
     words.add_argument("names", nargs="+", metavar="NAME")
     words.add_argument("--list", action="store_true")
-    for word, default in {"--only": "", "--shape": "", "--most": 1 << 30, "--seconds": 0, "--jobs": 0}.items():
+    numbers = {"--most": 1 << 30, "--many": 24, "--seconds": 0, "--jobs": 0}
+    for word, default in ({"--only": "", "--shape": "", "--behind": ""} | numbers).items():
         words.add_argument(word, type=type(default), default=default)
     given = words.parse_args()
+    # What is said of a body stands before two spaces and the goals.
+    told = Path(given.behind).read_text(encoding="utf-8").split("\n") if given.behind else []
+    told = dict(line.split("  (")[0].split(": ", 1)[::-1] for line in told if line.split(": ")[0] in KINDS[:5])
     for name, count in [(name, Counter()) for name in given.names]:
         found = [it for it in bodies_of(TOP / "crates" / name) if given.shape in it.shape]
         found = [it for it in found if any(word in it.note for word in given.only.split(","))]
         found = found[:: -(-len(found) // given.most) or 1]
+        said = lambda it: f"{name}: {it.shape}: {it.note}"
         if given.list:
-            print(*(f"{name}: {it.shape}: {it.note}" for it in found), sep="\n")
+            print(*map(said, found), sep="\n")
             print(f"{name}: {len(found)} bodies: {dict(Counter(it.shape for it in found))}")
             continue
+        count.update(told[said(it)] for it in found if said(it) in told)
         with tempfile.TemporaryDirectory(prefix="plant-") as folder:
             room = Room(folder, name, given.jobs, given.seconds)
-            if room.check()[0]:
-                sys.exit(f"edits/plant.py: {name} is not proved as it stands")
-            for it in found:
-                kind, why = room.tried(it)
+            for it, kind, why in room.verdicts([it for it in found if said(it) not in told], given.many):
                 count[kind] += 1
-                print(f"{kind}: {name}: {it.shape}: {it.note}" + f"  ({why[:160]})" * bool(why), flush=True)
+                print(f"{kind}: {said(it)}" + f"  ({why[:160]})" * bool(why), flush=True)
         print(f"| `{name}` | {len(found)} | " + " | ".join(str(count[kind]) for kind in KINDS) + " |", flush=True)
 
 
