@@ -2,9 +2,10 @@ use Rattle.std.proofs.Common.{◌<◌, arith, sym, subst}
 use Rattle.dstm_region.specs.Region.{IsInside}
 use Rattle.dstm_list.proofs.Steps.{left, node-of_list, next_within, left-less, place-next, place-end}
 use Rattle.dstm_list.proofs.Walked.{walks-by, ready-walked}
-use Rattle.dstm_release_list.proofs.Walking.{Laws, walking-on, stepped, stands-held, next-held, at-map}
+use Rattle.dstm_release_list.proofs.Walking.{Advanced, Laws, walking-on, stepped, stands-held, next-held, at-map}
 use Rattle.dstm_release_list.proofs.Walking.{adds-next, adds-end}
 use Rattle.dstm_release_list.proofs.walk.walk.Given as given
+use Rattle.dstm_release_list.proofs.walk.walk.Goals.{After-let_go}
 use Rattle.dstm_release_list.proofs.walk.walk.Goals as goal
 
 laws : (g : given.Over) → Laws g.M.Mem g.M.Release.Began
@@ -14,6 +15,14 @@ laws g = record {
   exactly = g.met.M.Release.admits_exactly;
   stays = g.met.M.Release.began_stays;
 }
+
+-- the step of an iteration
+gone_on : (g : given.Over) (c : After-let_go g) → Advanced g.M.Mem c.args.region c.args.key c.args.mem.now c.let_go.new.mem
+    c.in_ok-head.head c.loop-last.behind c.loop-last.last c.in_ok-next.next
+gone_on g c =
+    stepped g.M.Mem c.args.mem.now c.args.region (laws g) c.requires.ready c.requires.fits c.requires.fits.some
+    c.loop-last.invariant c.loop-last-test.true c.node_object_in.ensures c.in_ok-next.ensures.visits
+    c.in_ok-next.ensures.leads c.in_ok-next.ensures.looks c.let_go.ensures.lets c.let_go.ensures.gone
 
 pub visit-requires-in-loop-last-clause-exists : goal.visit-requires-in-loop-last-clause-exists
 visit-requires-in-loop-last-clause-exists g c =
@@ -31,9 +40,7 @@ visit-requires-in-loop-last-clause-exists g c =
 pub returns-then-next-from : goal.returns-then-next-from
 returns-then-next-from g c =
     let so_far = c.loop-last.invariant in
-    let step = stepped g.M.Mem c.args.mem.now c.args.region (laws g) c.requires.ready c.requires.fits
-    c.requires.fits.some so_far c.loop-last-test.true c.node_object_in.ensures c.in_ok-next.ensures.visits
-    c.in_ok-next.ensures.leads c.in_ok-next.ensures.looks c.let_go.ensures.lets c.let_go.ensures.gone in
+    let step = gone_on g (goal.at.returns-then-next-from g c).After-let_go in
     let region = c.args.region in
     let last = c.loop-last.last in
     let next = c.in_ok-next.next in
@@ -58,9 +65,7 @@ returns-then-next-from g c =
 pub loop-last-smaller : goal.loop-last-smaller
 loop-last-smaller g c =
     let so_far = c.loop-last.invariant in
-    let step = stepped g.M.Mem c.args.mem.now c.args.region (laws g) c.requires.ready c.requires.fits
-    c.requires.fits.some so_far c.loop-last-test.true c.node_object_in.ensures c.in_ok-next.ensures.visits
-    c.in_ok-next.ensures.leads c.in_ok-next.ensures.looks c.let_go.ensures.lets c.let_go.ensures.gone in
+    let step = gone_on g (goal.at.loop-last-smaller g c).After-let_go in
     let last = c.loop-last.last in
     let next = c.in_ok-next.next in
     let begin = c.args.region.first in
@@ -77,9 +82,7 @@ loop-last-smaller g c =
 pub loop-last-preserved : goal.loop-last-preserved
 loop-last-preserved g c =
     let so_far = c.loop-last.invariant in
-    let step = stepped g.M.Mem c.args.mem.now c.args.region (laws g) c.requires.ready c.requires.fits
-    c.requires.fits.some so_far c.loop-last-test.true c.node_object_in.ensures c.in_ok-next.ensures.visits
-    c.in_ok-next.ensures.leads c.in_ok-next.ensures.looks c.let_go.ensures.lets c.let_go.ensures.gone in
+    let step = gone_on g (goal.at.loop-last-preserved g c).After-let_go in
     let next = c.in_ok-next.next in
     let less : next.node.key < c.args.key = omega (arith, c.if-next-from.false, c.from.ensures) in
     walking-on g.M.Mem c.args.mem.now c.args.region c.unless_at-behind.result c.requires.fits.some so_far
