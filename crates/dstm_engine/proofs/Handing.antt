@@ -1,9 +1,9 @@
 -- What an open of an object hands out that is open already, and what an open answers.
-use Rattle.std.proofs.Common.{◌++◌, ◌<◌, ◌==◌, ◌∙◌, ◌∷◌, ◌≡◌, ◌≢◌, List, None, Option, Some, [], ap, arith, false, inl, inr, length, map, refl, subst, sym, true, ℕ}
+use Rattle.std.proofs.Common.{◌++◌, ◌<◌, ◌==◌, ◌∙◌, ◌∷◌, ◌≡◌, ◌≢◌, List, None, Option, Some, [], ap, arith, false, inl, inr, length, map, refl, sym, true, ℕ}
 use Rattle.std.specs.Prelude.{Err, IfErr, IfOk, Ok, OnOk, Result, if◌then◌else◌, is_some, option_map}
 use Rattle.std.specs.Option.{option_or}
 use Rattle.std.proofs.lemmas.Bool.{cases_Bool, cond_both, eqb-true}
-use Rattle.dstm_engine.proofs.Base.{Again, AreWrites, Read, ReadSlot, Reading, Shape, Val, Work, Write, WriteSlot, Writing, or_old, read_of, value_at, value_in, with_set, word_of, write_of}
+use Rattle.dstm_engine.proofs.Base.{Again, AreWrites, Read, ReadSlot, Reading, Shape, Val, Write, WriteSlot, Writing, or_old, read_of, value_at, value_in, with_set, word_of, write_of}
 use Rattle.dstm_mem.proofs.WithSet.{found_by, unchanged_by}
 use Rattle.dstm_opacity.proofs.Tidy.{Apart, WritesOnce, tidy}
 use Rattle.dstm_engine.proofs.Opens.{no_slot, no_word, none_of, unheld_both, unset}
@@ -16,8 +16,8 @@ use Rattle.dstm_engine.specs.Callers.{Called, entry, handed, held, is_live, is_o
 use Rattle.dstm_engine.specs.Calls.{reading}
 use Rattle.dstm_engine.specs.Mirror.{Tied, called, set_pairs, slot_old, slot_value, with_new}
 use Rattle.dstm_engine.specs.Opened.{read_slot, slots_value, write_slot}
-use Rattle.dstm_engine.specs.Opens.{Continues, Opens, Stops}
-use Rattle.dstm_engine.specs.Transactions.{Leaves, Stays, given_back}
+use Rattle.dstm_engine.specs.Opens.{Continues}
+use Rattle.dstm_engine.specs.Transactions.{given_back}
 use Rattle.dstm_engine.specs.declared.caller.Caller.TheInside.{Inside}
 
 -- ---- the values of the slots
@@ -176,15 +176,6 @@ module _ {L : Type 0} (holds : L → List Val → Type 0) (k : Called L) {n : Ca
 
   pub sets_none : OnOk r ((map : List Val) → with_set map (written n) ≡ with_set map (written k))
   sets_none = unchanged_by r (written k) (written n) (λ p. ap (λ (k : Called L). written k p) kept)
-
--- it stays on its attempt, or leaves it
-module _ {L : Type 0} (holds : L → List Val → Type 0) (k : Called L) (o : ℕ) {work : Work}
-    (is : work ≡ reading (shape_of k) o) (r : Result Val Again) (n : Called L) where
-  pub read_stays : IfOk r (Opens holds work o k n) → OnOk r (Stays holds (reading (shape_of k) o) k n)
-  read_stays opens = subst (λ w. OnOk r (Stays holds w k n)) is (ok_then r _ _ (λ x o. o.stays) opens)
-
-  pub read_leaves : IfErr r (Stops holds work k n) → IfErr r (Leaves holds (reading (shape_of k) o) k n)
-  read_leaves stops = subst (λ w. IfErr r (Leaves holds w k n)) is (if_err r _ _ (λ e s. s.leaves) stops)
 
 module _ {L : Type 0} {holds : L → List Val → Type 0} {c : Inside L} (v : Tied holds c) {k : Called L}
     (view : called c ≡ k) (live : is_live k ≡ true) (o : ℕ) where

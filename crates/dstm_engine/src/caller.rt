@@ -233,11 +233,7 @@ impl<L: Law> Caller<L> {
         if let Some(value) = self.opened.value(o) {
             return Ok(value);
         }
-        if self.terms.shape.all_write {
-            self.write_out(stm, o)
-        } else {
-            self.read_out(stm, o)
-        }
+        self.read_out(stm, o)
     }
 
     // Opens an object for reading and writing, with the same answer.
@@ -277,18 +273,18 @@ impl<L: Law> Caller<L> {
         }
     }
 
-    // Opens an object for reading that is not held. Where that fails, the cause is kept with the caller: a way back that
-    // has one value or none costs less than one with a cause in it.
+    // Opens an object for reading that is not held. Where that fails, the cause is kept with the caller, and what is
+    // answered counts for nothing: a way back that has a value alone costs less than one with a cause in it.
     #[inline(never)]
-    fn read_kept(&mut self, stm: &Stm<L>, o: u32) -> Option<Val>
+    fn read_kept(&mut self, stm: &Stm<L>, o: u32) -> Val
         requires table { self.old.home ≡ stm.now }
         requires exists { o < (shape_of self.old).objects }
         requires live { IsTrue (is_live self.old) }
         requires unheld { held self.old o ≡ None }
         requires reads { (shape_of self.old).all_write ≡ false }
-        ensures opens { IfSome result (Opens L.holds (Reading o) o self.old self.new) }
-        ensures unmarked { IfSome result (λ _. (p : ℕ) → is_opened self.new p ≡ is_opened self.old p) }
-        ensures stops { result ≡ None → (again : Cause) × Stops L.holds (Reading o) self.old self.new again }
+        ensures opens { IsTrue (is_live self.new) → Opens L.holds (Reading o) o self.old self.new result }
+        ensures unmarked { IsTrue (is_live self.new) → (p : ℕ) → is_opened self.new p ≡ is_opened self.old p }
+        ensures stops { is_live self.new ≡ false → (again : Cause) × Stops L.holds (Reading o) self.old self.new again }
     {
         renew(&mut self.steps);
         match read_object::<L, Brand>(
@@ -299,43 +295,25 @@ impl<L: Law> Caller<L> {
             stm,
             o,
         ) {
-            Ok(value) => Some(value),
+            Ok(value) => value,
             Err(again) => {
                 self.live = false;
                 self.left = Some(again);
-                None
+                Val { low: 0, high: 0 }
             }
-        }
-    }
-
-    // The same, and it answers the cause.
-    #[inline(always)]
-    fn read_out(&mut self, stm: &Stm<L>, o: u32) -> Result<Val, Again>
-        requires table { self.old.home ≡ stm.now }
-        requires exists { o < (shape_of self.old).objects }
-        requires live { IsTrue (is_live self.old) }
-        requires unheld { held self.old o ≡ None }
-        requires reads { (shape_of self.old).all_write ≡ false }
-        ensures opens { IfOk result (Opens L.holds (Reading o) o self.old self.new) }
-        ensures unmarked { OnOk result ((p : ℕ) → is_opened self.new p ≡ is_opened self.old p) }
-        ensures stops { IfErr result (Stops L.holds (Reading o) self.old self.new) }
-    {
-        match self.read_kept(stm, o) {
-            Some(value) => Ok(value),
-            None => Err(self.cause()),
         }
     }
 
     // Opens an object for writing that is not open for it. Where that fails, the cause is kept.
     #[inline(never)]
-    fn write_kept(&mut self, stm: &Stm<L>, o: u32) -> Option<Val>
+    fn write_kept(&mut self, stm: &Stm<L>, o: u32) -> Val
         requires table { self.old.home ≡ stm.now }
         requires exists { o < (shape_of self.old).objects }
         requires live { IsTrue (is_live self.old) }
         requires unopened { is_opened self.old o ≡ false }
-        ensures opens { IfSome result (Opens L.holds (Writing o) o self.old self.new) }
-        ensures marked { IfSome result (λ _. IsTrue (is_opened self.new o)) }
-        ensures stops { result ≡ None → (again : Cause) × Stops L.holds (Writing o) self.old self.new again }
+        ensures opens { IsTrue (is_live self.new) → Opens L.holds (Writing o) o self.old self.new result }
+        ensures marked { IsTrue (is_live self.new) → IsTrue (is_opened self.new o) }
+        ensures stops { is_live self.new ≡ false → (again : Cause) × Stops L.holds (Writing o) self.old self.new again }
     {
         renew(&mut self.steps);
         let next = self.number * self.terms.shape.locators + self.steps.installed;
@@ -348,16 +326,60 @@ impl<L: Law> Caller<L> {
             o,
             next,
         ) {
-            Ok(old) => Some(old),
+            Ok(old) => old,
             Err(again) => {
                 self.live = false;
                 self.left = Some(again);
-                None
+                Val { low: 0, high: 0 }
             }
         }
     }
 
+    // Opens an object that is not held as an open for reading does: for writing where all objects are opened so. Where
+    // that fails, the cause is kept.
+    #[inline(always)]
+    fn first_kept(&mut self, stm: &Stm<L>, o: u32) -> Val
+        requires table { self.old.home ≡ stm.now }
+        requires exists { o < (shape_of self.old).objects }
+        requires live { IsTrue (is_live self.old) }
+        requires unheld { held self.old o ≡ None }
+        requires unopened { is_opened self.old o ≡ false }
+        ensures opens { IsTrue (is_live self.new) →
+            Opens L.holds (reading (shape_of self.old) o) o self.old self.new result }
+        ensures unmarked { IsTrue (is_live self.new) → (shape_of self.old).all_write ≡ false →
+            (p : ℕ) → is_opened self.new p ≡ is_opened self.old p }
+        ensures stops { is_live self.new ≡ false →
+            (again : Cause) × Stops L.holds (reading (shape_of self.old) o) self.old self.new again }
+    {
+        if self.terms.shape.all_write {
+            self.write_kept(stm, o)
+        } else {
+            self.read_kept(stm, o)
+        }
+    }
+
     // The same, and it answers the cause.
+    #[inline(always)]
+    fn read_out(&mut self, stm: &Stm<L>, o: u32) -> Result<Val, Again>
+        requires table { self.old.home ≡ stm.now }
+        requires exists { o < (shape_of self.old).objects }
+        requires live { IsTrue (is_live self.old) }
+        requires unheld { held self.old o ≡ None }
+        requires unopened { is_opened self.old o ≡ false }
+        ensures opens { IfOk result (Opens L.holds (reading (shape_of self.old) o) o self.old self.new) }
+        ensures unmarked { OnOk result ((shape_of self.old).all_write ≡ false →
+            (p : ℕ) → is_opened self.new p ≡ is_opened self.old p) }
+        ensures stops { IfErr result (Stops L.holds (reading (shape_of self.old) o) self.old self.new) }
+    {
+        let value = self.first_kept(stm, o);
+        if self.is_live() {
+            Ok(value)
+        } else {
+            Err(self.cause())
+        }
+    }
+
+    // Opens an object for writing that is not open for it, and answers the cause.
     #[inline(always)]
     fn write_out(&mut self, stm: &Stm<L>, o: u32) -> Result<Val, Again>
         requires table { self.old.home ≡ stm.now }
@@ -368,9 +390,11 @@ impl<L: Law> Caller<L> {
         ensures marked { OnOk result (IsTrue (is_opened self.new o)) }
         ensures stops { IfErr result (Stops L.holds (Writing o) self.old self.new) }
     {
-        match self.write_kept(stm, o) {
-            Some(value) => Ok(value),
-            None => Err(self.cause()),
+        let value = self.write_kept(stm, o);
+        if self.is_live() {
+            Ok(value)
+        } else {
+            Err(self.cause())
         }
     }
 

@@ -116,16 +116,22 @@ impl Opened {
     }
 
     // Records a read. Where more than half of the slots were let go the others move together first.
-    pub fn push_read(&mut self, slot: ReadSlot)
-        requires exists { slot.object < self.old.objects }
-        requires unread { read_slot self.old.reads slot.object ≡ None }
+    pub fn push_read(&mut self, object: u32, word: u64, value: Val)
+        requires exists { object < self.old.objects }
+        requires unread { read_slot self.old.reads object ≡ None }
         requires room { length self.old.reads < self.old.objects }
-        requires kept { slot.kept ≡ true }
-        ensures { self.new ≡ record self.old { reads = self.old.reads ++ slot ∷ [] } }
+        ensures { self.new ≡ record self.old {
+          reads = self.old.reads ++ record { object = object; kept = true; word = word; value = value } ∷ [];
+        } }
     {
         make_room(&mut self.reads, &mut self.places, &mut self.gone);
-        self.reads.push_reserved(slot);
-        self.places[slot.object as usize].read = self.reads.len() as u32;
+        self.reads.push_reserved(ReadSlot {
+            object,
+            kept: true,
+            word,
+            value,
+        });
+        self.places[object as usize].read = self.reads.len() as u32;
     }
 
     // Lets the read of an object go, where there is one.
@@ -212,7 +218,7 @@ fn make_room(reads: &mut Vec<ReadSlot>, places: &mut Vec<Place>, gone: &mut usiz
     ensures size { length places.new.items ≡ length places.old.items }
     ensures capacity { vec_capacity reads.new ≡ vec_capacity reads.old }
 {
-    if *gone <= reads.len() / 2 {
+    if *gone == 0 || *gone <= reads.len() / 2 {
         return;
     }
     *gone = 0;

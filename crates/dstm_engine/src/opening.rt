@@ -53,12 +53,7 @@ pub fn read_object<L: Law, B: InCall>(
 {
     let found = steps.resolve::<B>(words, object, None)?;
     let value = value_found(found, stm, object);
-    opened.push_read(ReadSlot {
-        object,
-        word: found.word,
-        value,
-        kept: true,
-    });
+    opened.push_read(object, found.word, value);
     steps.conclude::<B>(words, last, opened.reads())?;
     Ok(value)
 }

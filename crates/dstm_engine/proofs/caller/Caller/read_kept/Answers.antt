@@ -34,9 +34,15 @@ invariant_of-self g c =
     c.requires.reads c.in-Ok.ensures.ends_well c.in-Ok.ensures.opens c.in-Ok.ensures.last
 
 pub returns-in-Ok-clause-opens : goal.returns-in-Ok-clause-opens
-returns-in-Ok-clause-opens g c =
+returns-in-Ok-clause-opens g c = λ _.
     first_opens (begun g (goal.at.returns-in-Ok-clause-opens g c).After-words) c.requires.live c.args.o
     c.requires.unheld c.requires.reads c.in-Ok.ensures.ends_well c.in-Ok.ensures.opens c.in-Ok.ensures.last
+
+pub returns-in-Ok-clause-stops : goal.returns-in-Ok-clause-stops
+returns-in-Ok-clause-stops g c = λ dead.
+    let is = first_opens (begun g (goal.at.returns-in-Ok-clause-stops g c).After-words) c.requires.live c.args.o
+    c.requires.unheld c.requires.reads c.in-Ok.ensures.ends_well c.in-Ok.ensures.opens c.in-Ok.ensures.last in
+    let live = is.continues.live in absurd (cc)
 
 pub invariant_of-self-in-Err : goal.invariant_of-self-in-Err
 invariant_of-self-in-Err g c =
@@ -44,6 +50,22 @@ invariant_of-self-in-Err g c =
     c.in-Err.ensures.ends
     (λ all. let some = c.requires.reads in absurd (cc)) c.read_object.new.last c.read_object.new.opened
     (c.read_object.ensures.rest.0, ap set_pairs c.read_object.ensures.rest.1)
+
+pub returns-in-Err-clause-opens : goal.returns-in-Err-clause-opens
+returns-in-Err-clause-opens g c = λ live.
+    let is = first_stops (begun g (goal.at.returns-in-Err-clause-opens g c).After-words) c.requires.live refl
+    c.in-Err.ensures.ends
+    (λ all. let some = c.requires.reads in absurd (cc)) c.read_object.new.last c.read_object.new.opened
+    (c.read_object.ensures.rest.0, ap set_pairs c.read_object.ensures.rest.1) in
+    let dead = is.over.live in absurd (cc)
+
+pub returns-in-Err-clause-unmarked : goal.returns-in-Err-clause-unmarked
+returns-in-Err-clause-unmarked g c = λ live.
+    let is = first_stops (begun g (goal.at.returns-in-Err-clause-unmarked g c).After-words) c.requires.live refl
+    c.in-Err.ensures.ends
+    (λ all. let some = c.requires.reads in absurd (cc)) c.read_object.new.last c.read_object.new.opened
+    (c.read_object.ensures.rest.0, ap set_pairs c.read_object.ensures.rest.1) in
+    let dead = is.over.live in absurd (cc)
 
 pub returns-in-Err-clause-stops : goal.returns-in-Err-clause-stops
 returns-in-Err-clause-stops g c = λ _. (

@@ -1,4 +1,4 @@
-use Rattle.std.proofs.Common.{rules, ◌*◌, ◌+◌, ◌<◌, ◌∙◌, ◌≡◌, ap, arith, refl, subst, sym, true}
+use Rattle.std.proofs.Common.{◌*◌, ◌+◌, ◌<◌, ◌∙◌, ◌≡◌, ap, arith, refl, subst, sym, true}
 use Rattle.dstm_engine.proofs.Base.{Steps, Writing}
 use Rattle.dstm_core.proofs.Columns.{in_table}
 use Rattle.dstm_engine.proofs.AtCall.{AtCall, at_call}
@@ -54,18 +54,31 @@ invariant_of-self g c =
 pub returns-in-Ok : goal.returns-in-Ok
 returns-in-Ok g c =
     let at = begun g (goal.at.returns-in-Ok g c).After-words in
+    let is = first_write_opens at c.requires.live c.args.o c.requires.unopened
+    c.in-Ok.ensures.ends_well c.in-Ok.ensures.opens c.in-Ok.ensures.last in
     record {
-      opens = first_write_opens at c.requires.live c.args.o c.requires.unopened
+      opens = λ _. is;
+      marked = λ _. first_write_marked at c.requires.live c.args.o c.requires.unopened
           c.in-Ok.ensures.ends_well c.in-Ok.ensures.opens c.in-Ok.ensures.last;
-      marked = first_write_marked at c.requires.live c.args.o c.requires.unopened
-          c.in-Ok.ensures.ends_well c.in-Ok.ensures.opens c.in-Ok.ensures.last;
-      stops = search rules;
+      stops = λ dead. let live = is.continues.live in absurd (cc);
     }
 
 pub invariant_of-self-in-Err : goal.invariant_of-self-in-Err
 invariant_of-self-in-Err g c =
     first_stopped_tied (begun g (goal.at.invariant_of-self-in-Err g c).After-words) c.requires.live refl
     c.in-Err.ensures.ends (λ all. tt) c.write_object.new.last c.write_object.new.opened c.write_object.ensures.rest
+
+pub returns-in-Err-clause-opens : goal.returns-in-Err-clause-opens
+returns-in-Err-clause-opens g c = λ live.
+    let is = first_stops (begun g (goal.at.returns-in-Err-clause-opens g c).After-words) c.requires.live refl
+    c.in-Err.ensures.ends (λ all. tt) c.write_object.new.last c.write_object.new.opened c.write_object.ensures.rest in
+    let dead = is.over.live in absurd (cc)
+
+pub returns-in-Err-clause-marked : goal.returns-in-Err-clause-marked
+returns-in-Err-clause-marked g c = λ live.
+    let is = first_stops (begun g (goal.at.returns-in-Err-clause-marked g c).After-words) c.requires.live refl
+    c.in-Err.ensures.ends (λ all. tt) c.write_object.new.last c.write_object.new.opened c.write_object.ensures.rest in
+    let dead = is.over.live in absurd (cc)
 
 pub returns-in-Err-clause-stops : goal.returns-in-Err-clause-stops
 returns-in-Err-clause-stops g c = λ _. (

@@ -1,4 +1,4 @@
-use Rattle.std.proofs.Common.{◌+◌, ◌++◌, ◌<◌, ◌==◌, ◌∙◌, ◌∷◌, ◌≡◌, None, [], ap, arith, filter, length, length-append, refl, subst, sym}
+use Rattle.std.proofs.Common.{◌+◌, ◌++◌, ◌<◌, ◌==◌, ◌∙◌, ◌∷◌, ◌≡◌, None, [], ap, arith, filter, length, length-append, refl, subst, sym, true}
 use Rattle.std.specs.Prelude.{slice_set}
 use Rattle.std.proofs.lemmas.List.{get_or_default, length-set}
 use Rattle.dstm_mem.proofs.Finding.{find_filter}
@@ -15,7 +15,7 @@ invariant_of-self c =
     let room = c.make_room.ensures in
     let reads = c.make_room.new.reads.items in
     let places = c.make_room.new.places.items in
-    let s = c.args.slot in
+    let s : ReadSlot = record { object = c.args.object; kept = true; word = c.args.word; value = c.args.value } in
     let n = c.len.result in
     let place = c.index_mut.result.now in
     let exists : s.object < length c.self.inside.places.items =
@@ -37,7 +37,7 @@ invariant_of-self c =
     let new : Place = record place { read = n } in
     let wide = length-set places s.object new in
     let capacity = c.push_reserved.ensures.capacity in
-    let kept = ap (λ xs. length xs) (filter_push reads s c.requires.kept) in
+    let kept = ap (λ xs. length xs) (filter_push reads s refl) in
     let one_longer = length-append (filter is_kept reads) (s ∷ []) in
     let all : length (filter is_kept c.push_reserved.new.self.items) ≡ length (filter is_kept (reads ++ s ∷ [])) =
     ap (λ xs. length (filter is_kept xs)) c.push_reserved.ensures.items in
@@ -46,7 +46,7 @@ invariant_of-self c =
     let counted = room.counted in
     record {
       reads = subst (λ rs. AreReadPlaces rs (slice_set places s.object new)) (sym c.push_reserved.ensures.items)
-          (placed_alike (one_more room.placed s below c.requires.kept none (λ o. (place_at (slice_set places s.object new) o).read)
+          (placed_alike (one_more room.placed s below refl none (λ o. (place_at (slice_set places s.object new) o).read)
           (part_here places no_place s.object new below (λ (q : Place). q.read) ∙ (let is : n ≡ length reads + 1 = omega arith in is))
           (part_other places no_place s.object new below (λ (q : Place). q.read))) _ _ wide (λ o. refl));
       writes = placed_alike old.writes _ _ (wide ∙ size) (λ o.
