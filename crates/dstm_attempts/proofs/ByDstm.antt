@@ -1,5 +1,5 @@
 -- What a call on an attempt by DSTM leaves of it.
-use Rattle.std.proofs.Common.{◌≡◌, ◌∙◌, ◌∷◌, ◌<◌, ◌+◌, ◌≤◌, ℕ, Bool, List, ap, arith, false, inl, inr, length, refl, subst, sym, true}
+use Rattle.std.proofs.Common.{◌≡◌, ◌∙◌, ◌∷◌, ◌<◌, ◌+◌, ◌≤◌, ℕ, Bool, List, ap, arith, false, inl, inr, refl, subst, sym, true}
 use Rattle.std.specs.Prelude.{◌||◌, None, Some, nat_lt, not}
 use Rattle.std.proofs.lemmas.Bool.Decides.{nat_tests}
 use base.Fml.{GName}
@@ -7,8 +7,7 @@ use Rattle.dstm_model.specs.Answers.{Committed}
 use Rattle.dstm_model.specs.declared.value.Val.{Val}
 use Rattle.dstm_core.specs.Runs.{local}
 use Rattle.dstm_words.specs.Seats.{Home}
-use Rattle.dstm_mem.specs.Memory.{SetsOnly, value_in, with_set}
-use Rattle.dstm_mem.proofs.WithSet.{value_at-opened, with_set-set}
+use Rattle.dstm_mem.specs.Memory.{SetsOnly, value_in}
 use Rattle.dstm_order.specs.Tasks.{Work}
 use Rattle.dstm_order.specs.Tasks.Task.{Leaving}
 use Rattle.dstm_order.specs.declared.again.Again.{Again}
@@ -23,8 +22,10 @@ use Rattle.dstm_tables.specs.Callers.{begun}
 use Rattle.dstm_tables.specs.declared.tables.Caller.TheVariants.{Dstm}
 use Rattle.dstm_tables.specs.declared.tables.Table.{Table}
 use Rattle.dstm_tables.specs.declared.tables.Table.TheVariants as table
-use Rattle.dstm_attempts.specs.Attempts.{AddsNothing, Attempt, Began, Finds, IsNotOpened, IsSpent, Keeps, MayBegin, Puts, SetsNothing, seen}
+use Rattle.dstm_attempts.specs.Attempts.{AddsNothing, Attempt, Began, Finds, IsNotOpened, IsSpent, Keeps, MayBegin, Puts, seen}
 use Rattle.dstm_attempts.specs.Attempts.Began.{ByDstm, ByTl2}
+use Rattle.dstm_attempts.proofs.Leaving as left
+use Rattle.dstm_attempts.proofs.Leaving.{sets_nothing}
 use Rattle.dstm_attempts.specs.Dstm.{Beginning, IsOver, IsQuit, IsStill, Opens, TakesEffect, beginning, opening}
 use Rattle.dstm_attempts.specs.declared.error.NotOpened.TheVariants.{Over}
 
@@ -72,13 +73,6 @@ module _ {L : Type 0} where
       subst (λ b. (not b || nat_lt (shape_of k).locators ((state k).installed + (shape_of k).objects)) ≡ true) (sym none) refl
 
   module _ (holds : L → List Val → Type 0) where
-    sets_nothing : (k n : Called L) → n.set ≡ k.set →
-        ((map : List Val) → MayBegin holds (Dstm n) map → MayBegin holds (Dstm k) map) → SetsNothing holds (Dstm k) (Dstm n)
-    sets_nothing k n set narrows = record {
-      narrows = narrows;
-      same = λ map. ap (λ (s : List (ℕ × Val)). with_set map (value_in s)) set;
-    }
-
     -- an open has left the attempt
     pub not_opened_left : (writes : Bool) (o : ℕ) (k n : Called L) (cause : Again) →
         Leaves holds (opening (shape_of k) writes o) k n cause → is_live n ≡ false → n.set ≡ k.set →
@@ -86,29 +80,21 @@ module _ {L : Type 0} where
         IsNotOpened holds writes o (Dstm k) (Dstm n) Over
     not_opened_left writes o k n cause leaves live set narrows = record {
       why = (live, inr (cause, leaves));
-      unset = sets_nothing k n set narrows;
+      unset = sets_nothing holds (Dstm k) (Dstm n) (ap value_in set) narrows;
     }
 
     -- what an open finds
     pub finds : (k n : Called L) (o : ℕ) (v : Val) → n.set ≡ k.set → o < (shape_of k).objects →
         ((map : List Val) → MayBegin holds (Dstm n) map → MayBegin holds (Dstm k) map) → Some v ≡ handed n o →
         Finds holds (Dstm k) (Dstm n) o v
-    finds k n o v set within narrows value = record {
-      value = λ map may.
-          let size = (narrows map may).length in
-          let inside : o < length map = omega (arith, size, within) in
-          value_at-opened map (written n) (written n) (held n) o v inside may.agrees (λ p. refl) value;
-      narrows = narrows;
-      same = λ map. ap (λ (s : List (ℕ × Val)). with_set map (value_in s)) set;
-    }
+    finds k n o v set within narrows value =
+        left.finds holds (Dstm k) (Dstm n) (held n) o v (ap value_in set) within narrows (λ map may. may.agrees) value
 
     -- what a set leaves
     pub puts : (k n : Called L) (o : ℕ) (v : Val) → n ≡ record k { set = n.set } → SetsOnly o v (written k) (written n) →
         Puts holds (Dstm k) (Dstm n) o v
-    puts k n o v kept sets = record {
-      narrows = λ map may. (set_admits holds k n kept map).0 may;
-      puts = λ map. with_set-set map (written k) (written n) o v sets;
-    }
+    puts k n o v kept sets =
+        left.puts holds (Dstm k) (Dstm n) o v (λ map may. (set_admits holds k n kept map).0 may) sets
 
     -- an attempt that is over is not live
     pub over_quit : (work : Work) (k n : Called L) → IsOver holds work k n → IsQuit n

@@ -5,8 +5,7 @@ use Rattle.std.proofs.lemmas.Bool.Decides.{nat_tests}
 use base.Fml.{GName}
 use Rattle.dstm_model.specs.Answers.{Committed}
 use Rattle.dstm_model.specs.declared.value.Val.{Val}
-use Rattle.dstm_mem.specs.Memory.{SetsOnly, value_in, with_set}
-use Rattle.dstm_mem.proofs.WithSet.{value_at-opened, with_set-set}
+use Rattle.dstm_mem.specs.Memory.{SetsOnly, value_in}
 use Rattle.dstm_tl2.specs.Rules.{Event}
 use Rattle.dstm_tl2.specs.Runs.{local}
 use Rattle.dstm_tl2.specs.Sharing.{table_of}
@@ -21,8 +20,9 @@ use Rattle.dstm_tables.specs.Callers.{begun}
 use Rattle.dstm_tables.specs.declared.tables.Caller.TheVariants.{Tl2}
 use Rattle.dstm_tables.specs.declared.tables.Table.{Table}
 use Rattle.dstm_tables.specs.declared.tables.Table.TheVariants as table
-use Rattle.dstm_attempts.specs.Attempts.{AddsNothing, Attempt, Began, Finds, IsSpent, Keeps, MayBegin, Puts, SetsNothing, seen}
+use Rattle.dstm_attempts.specs.Attempts.{AddsNothing, Attempt, Began, Finds, IsSpent, Keeps, MayBegin, Puts, seen}
 use Rattle.dstm_attempts.specs.Attempts.Began.{ByDstm, ByTl2}
+use Rattle.dstm_attempts.proofs.Leaving as left
 use Rattle.dstm_attempts.specs.Tl2.{IsStill, Opens, StoodTogether, TakesEffect}
 
 abbrev log_in : List Event → Began → List Event
@@ -50,34 +50,18 @@ module _ {L : Type 0} where
       subst (λ b. not b ≡ true) (sym none) refl
 
   module _ (holds : L → List Val → Type 0) where
-    -- a caller that has set the same, and may have begun at no other values, sets nothing
-    pub sets_nothing : (k n : TlCalled L) → n.set ≡ k.set →
-        ((map : List Val) → MayBegin holds (Tl2 n) map → MayBegin holds (Tl2 k) map) → SetsNothing holds (Tl2 k) (Tl2 n)
-    sets_nothing k n set narrows = record {
-      narrows = narrows;
-      same = λ map. ap (λ (s : List (ℕ × Val)). with_set map (value_in s)) set;
-    }
-
     -- what an open finds
     pub finds : (k n : TlCalled L) (o : ℕ) (v : Val) → n.set ≡ k.set → o < objects_of k →
         ((map : List Val) → MayBegin holds (Tl2 n) map → MayBegin holds (Tl2 k) map) → Some v ≡ handed n o →
         Finds holds (Tl2 k) (Tl2 n) o v
-    finds k n o v set within narrows value = record {
-      value = λ map may.
-          let size = (narrows map may).length in
-          let inside : o < length map = omega (arith, size, within) in
-          value_at-opened map (written n) (written n) (held n) o v inside may.agrees (λ p. refl) value;
-      narrows = narrows;
-      same = λ map. ap (λ (s : List (ℕ × Val)). with_set map (value_in s)) set;
-    }
+    finds k n o v set within narrows value =
+        left.finds holds (Tl2 k) (Tl2 n) (held n) o v (ap value_in set) within narrows (λ map may. may.agrees) value
 
     -- what a set leaves
     pub puts : (k n : TlCalled L) (o : ℕ) (v : Val) → n ≡ record k { writes = n.writes; set = n.set } →
         SetsOnly o v (written k) (written n) → Puts holds (Tl2 k) (Tl2 n) o v
-    puts k n o v kept sets = record {
-      narrows = λ map may. (set_admits holds k {n = n} kept map).0 may;
-      puts = λ map. with_set-set map (written k) (written n) o v sets;
-    }
+    puts k n o v kept sets =
+        left.puts holds (Tl2 k) (Tl2 n) o v (λ map may. (set_admits holds k {n = n} kept map).0 may) sets
 
     -- ---- a set makes no step
 

@@ -1,6 +1,7 @@
 -- When no attempt of a caller by TL2 is under way.
 use Rattle.std.proofs.Common.{◌≡◌, ◌∙◌, ◌&&◌, ℕ, Bool, true, false, not, List, ap, inr, refl}
 use Rattle.dstm_model.specs.declared.value.Val.{Val}
+use Rattle.dstm_mem.specs.Memory.{value_in}
 use Rattle.dstm_tl2.specs.State.{LocalState}
 use Rattle.dstm_tl2_order.specs.Order.{is_spent}
 use Rattle.dstm_tl2_order.specs.Tasks.Work.{Opening}
@@ -12,7 +13,7 @@ use Rattle.dstm_tables.specs.declared.tables.Caller.TheVariants.{Tl2}
 use Rattle.dstm_attempts.specs.declared.error.NotOpened.TheVariants.{Over}
 use Rattle.dstm_attempts.specs.Attempts.{IsClosed, IsNotOpened, MayBegin}
 use Rattle.dstm_attempts.specs.Tl2.{is_under_way}
-use Rattle.dstm_attempts.proofs.ByTl2.{sets_nothing}
+use Rattle.dstm_attempts.proofs.Leaving.{sets_nothing}
 
 module _ {L : Type 0} where
   -- where none is under way
@@ -27,7 +28,7 @@ module _ {L : Type 0} where
         IsNotOpened holds writes o (Tl2 k) (Tl2 n) Over
     not_opened_left writes o k n cause leaves live set narrows = record {
       why = (shut n (ap (λ b. b && is_resting (state n)) live), inr (cause, leaves));
-      unset = sets_nothing holds k n set narrows;
+      unset = sets_nothing holds (Tl2 k) (Tl2 n) (ap value_in set) narrows;
     }
 
     -- a caller that was just given out has none under way

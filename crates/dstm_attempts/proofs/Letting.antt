@@ -1,16 +1,17 @@
 -- An attempt by DSTM that lets go of what it has set.
-use Rattle.std.proofs.Common.{◌≡◌, ◌==◌, ◌&&◌, Bool, not, ◌∙◌, ◌∷◌, ◌+◌, ◌<◌, ℕ, List, [], ap, arith, false, inl, inr, get_or, length, refl, subst, sym, take, true}
+use Rattle.std.proofs.Common.{◌≡◌, ◌==◌, ◌&&◌, Bool, not, ◌∙◌, ◌∷◌, ◌⊎◌, ◌+◌, ◌<◌, ℕ, List, [], ap, false, inl, inr, get_or, length, refl, subst, sym, take, true}
 use Rattle.std.specs.Prelude.{All, IfSome}
 use Rattle.std.proofs.lemmas.Bool.{cases_Bool, eq-eqb, eqb-true}
-use Rattle.std.proofs.lemmas.List.Elements.{All-head, All-more, All-tail}
+use Rattle.std.proofs.lemmas.List.Elements.{All-head, All-more, All-tail, Contains-get_or}
 use Rattle.dstm_model.specs.declared.value.Val.{Val}
 use Rattle.dstm_model.specs.Map.{value_at}
 use Rattle.dstm_mem.specs.Memory.{value_in}
 use Rattle.dstm_words.specs.Seats.{Home}
-use Rattle.dstm_engine.specs.Callers.{Called, entry, is_live, shape_of}
+use Rattle.dstm_engine.specs.Callers.{Called, entry, is_live}
 use Rattle.dstm_tables.specs.declared.tables.Caller.TheVariants.{Dstm}
-use Rattle.dstm_attempts.specs.Attempts.{AddsNothing, Begins, Finds, IsQuit, IsUntouched, Keeps, MayBegin}
-use Rattle.dstm_attempts.specs.Waiting.{FindsAll, FindsAnother, FindsChange, FindsOther, HasOther, LetsGoOf, OpensNoMore}
+use Rattle.dstm_attempts.specs.Attempts.{AddsNothing, Begins, Finds, IsNotOpened, IsQuit, IsUntouched, Keeps, MayBegin}
+use Rattle.dstm_attempts.specs.declared.error.NotOpened.{NotOpened}
+use Rattle.dstm_attempts.specs.Waiting.{FindsAll, FindsChange, FindsOther, HasOther, LetsGoOf, OpensNoMore}
 use Rattle.dstm_attempts.proofs.ByDstm.{home_in}
 use Rattle.dstm_attempts.proofs.UnderWay.{adds_nothing, begins_none, nothing_twice, same_law}
 
@@ -89,6 +90,22 @@ module _ {L : Type 0} where
       found = found_value k n o v untouched finds;
       may = may;
       differs = differs;
+    }
+
+    -- the attempt did not find the value that one of them has
+    pub finds_other_at : (first k n : Called L) (pairs : List (ℕ × Val)) (i : ℕ) (d : ℕ × Val) → i < length pairs →
+        Keeps (Dstm first) (Dstm k) → is_live k ≡ true →
+        HasOther holds n (get_or pairs i d).0 (get_or pairs i d).1
+        ⊎ ((answer : NotOpened) × IsNotOpened holds false (get_or pairs i d).0 (Dstm k) (Dstm n) answer) →
+        FindsOther holds first n pairs
+    finds_other_at first k n pairs i d within keeps live why = record {
+      object = (get_or pairs i d).0;
+      had = (get_or pairs i d).1;
+      one = Contains-get_or pairs i d within;
+      last = k;
+      keeps = keeps;
+      live = live;
+      why = why;
     }
 
     -- one that was begun behind it and found what it had read

@@ -2,6 +2,7 @@ mod ByDstm
 mod ByTl2
 pub mod Closed
 mod ClosedByTl2
+pub mod Leaving
 mod Letting
 mod Resuming
 pub mod Settling

@@ -4,18 +4,30 @@ use Rattle.std.proofs.lemmas.List.{ext_get_or}
 use Rattle.dstm_model.specs.declared.value.Val.{Val}
 use Rattle.dstm_model.specs.Map.{no_value, value_at}
 use Rattle.dstm_order.specs.Tasks.Work.{Committing, Writing}
-use Rattle.dstm_engine.specs.Callers.{new_value}
+use Rattle.dstm_words.specs.Seats as core
+use Rattle.dstm_engine.specs.Callers.{Called, new_value}
+use Rattle.dstm_tl2_words.specs.Seats as tl2
+use Rattle.dstm_tl2_engine.specs.Callers.{TlCalled}
 use Rattle.dstm_tables.specs.Callers.{begun, home_of, law_of}
 use Rattle.dstm_tables.specs.Tables.{law_there, objects_there}
 use Rattle.dstm_tables.specs.declared.tables.Caller.{Caller}
 use Rattle.dstm_tables.specs.declared.tables.Caller.TheVariants.{Dstm, Tl2}
 use Rattle.dstm_tables.specs.declared.tables.Table.TheVariants as table
-use Rattle.dstm_attempts.specs.Attempts.{AddsNothing, Attempt, Exchanges, Finds, IsLost, IsQuit, IsSpent, IsStill, Keeps, MayBegin, Opens, Puts, SetsNothing, StoodTogether, TakesEffect, attempts_of, objects_of, renewed}
+use Rattle.dstm_attempts.specs.Attempts.{AddsNothing, Attempt, Exchanges, Finds, IsLost, IsQuit, IsSpent, IsStill, Keeps, MayBegin, Opens, Puts, SetsNothing, StoodTogether, TakesEffect, attempt, attempts_of, objects_of, renewed}
 use Rattle.dstm_attempts.specs.Waiting.{RenewsNothing}
 use Rattle.dstm_attempts.proofs.ByDstm as by_dstm
+pub use Rattle.dstm_attempts.proofs.Leaving.{may_lawful, may_length}
 use Rattle.dstm_attempts.proofs.ByTl2 as by_tl2
 
 module _ {L : Type 0} where
+  -- a table is of one engine
+  pub apart : (h : core.Home L) (j : tl2.Home L) → table.Dstm h ≡ table.Tl2 j → ⊥
+  apart h j is = cc
+
+  -- so an attempt that stays the same stays by its engine
+  pub other_engine : (k : Called L) (n : TlCalled L) → attempt (Dstm k) ≡ attempt (Tl2 n) → ⊥
+  other_engine k n same = apart k.home n.home (ap (λ (a : Attempt L). a.home) same)
+
   -- one whose attempt stays the same adds nothing
   pub adds_nothing : (k n : Caller L) → Keeps k n → AddsNothing k n
   adds_nothing k n same = record {
@@ -36,14 +48,8 @@ module _ {L : Type 0} where
   pub renews_kept : (k n : Caller L) → Keeps k n → RenewsNothing k n
   renews_kept (Dstm k) (Dstm n) same = λ was. by_dstm.fresh_kept k n same ∙ was
   renews_kept (Tl2 k) (Tl2 n) same = tt
-  renews_kept (Dstm k) (Tl2 n) same = absurd (apart (ap (λ (a : Attempt L). a.home) same))
-    where
-      apart : table.Tl2 n.home ≡ table.Dstm k.home → ⊥
-      apart is = cc
-  renews_kept (Tl2 k) (Dstm n) same = absurd (apart (ap (λ (a : Attempt L). a.home) same))
-    where
-      apart : table.Dstm n.home ≡ table.Tl2 k.home → ⊥
-      apart is = cc
+  renews_kept (Dstm k) (Tl2 n) same = absurd (other_engine k n (sym same))
+  renews_kept (Tl2 k) (Dstm n) same = absurd (other_engine n k same)
 
   pub renews_twice : (k m n : Caller L) → RenewsNothing k m → RenewsNothing m n → RenewsNothing k n
   renews_twice (Dstm k) (Dstm m) (Dstm n) first second = λ was. second (first was)
@@ -74,14 +80,8 @@ module _ {L : Type 0} where
   pub begins_none : (k n : Caller L) → Keeps k n → begun n ≡ begun k
   begins_none (Dstm k) (Dstm n) same = by_dstm.begins_none k n same
   begins_none (Tl2 k) (Tl2 n) same = by_tl2.begins_none k n same
-  begins_none (Dstm k) (Tl2 n) same = absurd (apart (ap (λ (a : Attempt L). a.home) same))
-    where
-      apart : table.Tl2 n.home ≡ table.Dstm k.home → ⊥
-      apart is = cc
-  begins_none (Tl2 k) (Dstm n) same = absurd (apart (ap (λ (a : Attempt L). a.home) same))
-    where
-      apart : table.Dstm n.home ≡ table.Tl2 k.home → ⊥
-      apart is = cc
+  begins_none (Dstm k) (Tl2 n) same = absurd (other_engine k n (sym same))
+  begins_none (Tl2 k) (Dstm n) same = absurd (other_engine n k same)
 
   -- one that has begun as many attempts as it has is spent
   pub spent_at : (k : Caller L) (attempts : ℕ) → attempts ≡ attempts_of k → attempts ≤ begun k → IsSpent k
@@ -94,15 +94,6 @@ module _ {L : Type 0} where
   renewed_quit (Tl2 k) quit = tt
 
   module _ (holds : L → List Val → Type 0) where
-    -- values at which an attempt may have begun are so many, and lawful
-    pub may_length : (k : Caller L) (map : List Val) → MayBegin holds k map → length map ≡ objects_of k
-    may_length (Dstm k) map may = may.length
-    may_length (Tl2 k) map may = may.length
-
-    pub may_lawful : (k : Caller L) (map : List Val) → MayBegin holds k map → holds (law_of k) map
-    may_lawful (Dstm k) map may = may.lawful
-    may_lawful (Tl2 k) map may = may.lawful
-
     -- what is found sets nothing
     pub found_unset : (k n : Caller L) (o : ℕ) (v : Val) → Finds holds k n o v → SetsNothing holds k n
     found_unset k n o v found = record { narrows = found.narrows; same = found.same }
@@ -162,7 +153,7 @@ module _ {L : Type 0} where
     all_values k n values map o objects same all end size may each =
         let objects_same = same_objects k n (adds_nothing k n same).home in
         sym
-        (ext_get_or no_value values map (size ∙ end ∙ all ∙ sym objects_same ∙ sym (may_length n map may))
+        (ext_get_or no_value values map (size ∙ end ∙ all ∙ sym objects_same ∙ sym (may_length holds n map may))
         (λ i within. each i (omega (arith, size, within))))
 
     -- and lawful
@@ -170,4 +161,4 @@ module _ {L : Type 0} where
         holds (law_of k) values
     all_lawful k n values map same is may =
         subst (λ (l : L). holds l values) (same_law k n (adds_nothing k n same).home)
-        (subst (holds (law_of n)) is (may_lawful n map may))
+        (subst (holds (law_of n)) is (may_lawful holds n map may))

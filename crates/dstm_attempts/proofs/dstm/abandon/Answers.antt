@@ -1,4 +1,4 @@
-use Rattle.std.proofs.Common.{◌∙◌, sym}
+use Rattle.std.proofs.Common.{sym}
 use Rattle.dstm_mem.proofs.InTheEnd.{in_the_end}
 use Rattle.dstm_attempts.specs.Dstm.{IsQuit}
 use Rattle.dstm_attempts.proofs.ByDstm.{quit}

@@ -1,12 +1,11 @@
-use Rattle.std.proofs.Common.{◌∙◌, ◌≡◌, ◌<◌, ℕ, List, get_or, inl, inr, subst, sym, take}
-use Rattle.std.specs.Prelude.{All, Contains}
+use Rattle.std.proofs.Common.{◌∙◌, ◌≡◌, ℕ, List, get_or, inl, inr, subst, sym}
+use Rattle.std.specs.Prelude.{All}
 use Rattle.std.proofs.lemmas.List.{take_all}
-use Rattle.std.proofs.lemmas.List.Elements.{Contains-get_or}
 use Rattle.dstm_model.specs.declared.value.Val.{Val}
 use Rattle.dstm_model.specs.Map.{value_at}
 use Rattle.dstm_tables.specs.declared.tables.Caller.TheVariants.{Dstm}
 use Rattle.dstm_attempts.specs.Attempts.{MayBegin}
-use Rattle.dstm_attempts.proofs.Letting.{found_more, found_other, no_more_on, other_value, same_value, untouched_on}
+use Rattle.dstm_attempts.proofs.Letting.{finds_other_at, found_more, found_other, no_more_on, other_value, same_value, untouched_on}
 use Rattle.dstm_attempts.proofs.dstm.read_all.Goals as goal
 
 pub loop-pair-preserved : goal.loop-pair-preserved
@@ -46,32 +45,16 @@ returns-clause-same g c h =
 pub returns-in_default-clause-other : goal.returns-in_default-clause-other
 returns-in_default-clause-other g c h =
     let so_far = c.loop-pair.invariant in
-    let values = c.args.values.now in
-    let i = c.loop-pair.pair-index in
-    record {
-      object = (get_or values i (0, record { low = 0; high = 0 })).0;
-      had = (get_or values i (0, record { low = 0; high = 0 })).1;
-      one = Contains-get_or values i (0, record { low = 0; high = 0 }) c.loop-pair-test.true;
-      last = c.loop-pair.caller;
-      keeps = so_far.keeps;
-      live = so_far.flags.0 so_far.going;
-      why = inr (c.in_default.field-0, c.in_default.ensures.stops);
-    }
+    finds_other_at g.L.Law.holds c.args.caller.now c.loop-pair.caller _ c.args.values.now c.loop-pair.pair-index
+    (0, record { low = 0; high = 0 }) c.loop-pair-test.true so_far.keeps (so_far.flags.0 so_far.going)
+    (inr (c.in_default.field-0, c.in_default.ensures.stops))
 
 pub returns-then-ne-clause-other : goal.returns-then-ne-clause-other
 returns-then-ne-clause-other g c h =
     let so_far = c.loop-pair.invariant in
-    let values = c.args.values.now in
-    let i = c.loop-pair.pair-index in
-    let had : Val = (get_or values i (0, record { low = 0; high = 0 })).1 in
-    record {
-      object = (get_or values i (0, record { low = 0; high = 0 })).0;
-      had = (get_or values i (0, record { low = 0; high = 0 })).1;
-      one = Contains-get_or values i (0, record { low = 0; high = 0 }) c.loop-pair-test.true;
-      last = c.loop-pair.caller;
-      keeps = so_far.keeps;
-      live = so_far.flags.0 so_far.going;
-      why = inl (found_other g.L.Law.holds c.loop-pair.caller c.read.new.self
-          (get_or values i (0, record { low = 0; high = 0 })).0 c.in-Ok.found had so_far.untouched c.in-Ok.ensures.finds
-          c.in-Ok.ensures.may (other_value c.in-Ok.found had (sym c.ne.ensures ∙ c.if-ne.true)));
-    }
+    let d : ℕ × Val = (0, record { low = 0; high = 0 }) in
+    let pair : ℕ × Val = get_or c.args.values.now c.loop-pair.pair-index d in
+    finds_other_at g.L.Law.holds c.args.caller.now c.loop-pair.caller c.read.new.self c.args.values.now
+    c.loop-pair.pair-index d c.loop-pair-test.true so_far.keeps (so_far.flags.0 so_far.going)
+    (inl (found_other g.L.Law.holds c.loop-pair.caller c.read.new.self pair.0 c.in-Ok.found pair.1 so_far.untouched
+    c.in-Ok.ensures.finds c.in-Ok.ensures.may (other_value c.in-Ok.found pair.1 (sym c.ne.ensures ∙ c.if-ne.true))))

@@ -8,9 +8,6 @@ use Rattle.dstm_attempts.proofs.dstm.CallerCallsStm.set.Goals as goal
 
 pub returns-clause-puts : goal.returns-clause-puts
 returns-clause-puts g c =
-    let holds = g.L.Law.holds in
-    let k = c.resume.result.caller.now in
-    let new = c.set.new.self.caller.now in
-    resumed (λ (k n : Called _). Puts holds (Dstm k) (Dstm n) c.args.object c.args.value) _ k new _ _ _ (assumption c)
+    resumed (λ (k n : Called _). Puts g.L.Law.holds (Dstm k) (Dstm n) c.args.object c.args.value) _ _ _ _ _ _ (assumption c)
     (sym (c.set.ensures.reference ∙ c.resume.ensures.same)) c.resume.ensures.attempt
-    (puts holds k new c.args.object c.args.value c.set.ensures.kept c.set.ensures.written)
+    (puts _ _ _ _ _ c.set.ensures.kept c.set.ensures.written)
