@@ -1,4 +1,4 @@
-ghost use Rattle.std.specs.Prelude.{◌≡◌, ◌++◌, All, IfOk, OnOk, codes, decimal};
+ghost use Rattle.std.specs.Prelude.{◌≡◌, ◌++◌, ◌+◌, ◌≤◌, All, IfOk, OnOk, codes, decimal, length, vec_capacity, vec_len};
 ghost use Rattle.dstm_report.specs.Reading.{FitsRow};
 ghost use Rattle.std.specs.List.{flat_map};
 ghost use Rattle.dstm_report.specs.Text.{further_text, number_field, item_field, reply_text, replies_text, row_text};
@@ -6,8 +6,11 @@ ghost use Rattle.dstm_report.specs.Text.{numbers_text, item_text, items_text, re
 
 use crate::report::{Report, Row};
 use dstm_model::{Item, Items, Numbers, Reply};
-use dstm_text::push_decimal;
+use dstm_text::{push_decimal, put_decimal};
 use std::alloc::{AllocError, Global};
+
+// No row has so many bytes.
+const ROW: usize = 300;
 
 /// The text of a report, as docs/FORMATS.md shows it.
 pub fn render(alloc: Global, report: &Report) -> Result<Vec<u8>, AllocError>
@@ -22,7 +25,7 @@ pub fn render(alloc: Global, report: &Report) -> Result<Vec<u8>, AllocError>
     out.extend_from_slice(b"dstm report ")?;
     push_decimal(&mut out, u64::from(report.version))?;
     out.push(b'\n')?;
-    push_rows(&mut out, report.rows.as_slice())?;
+    let mut out = with_rows(out, report.rows.as_slice())?;
     push_numbers(&mut out, b"bank", &report.bank)?;
     push_numbers(&mut out, b"list", &report.list)?;
     push_items(&mut out, report.version, &report.tree)?;
@@ -39,58 +42,109 @@ fn push_field(out: &mut Vec<u8>, number: u64) -> Result<(), AllocError>
     push_decimal(out, number)
 }
 
-fn push_reply(out: &mut Vec<u8>, reply: Reply) -> Result<(), AllocError>
-    ensures { OnOk result (out.new.items ≡ out.old.items ++ reply_text reply) }
-{
-    match reply {
-        Reply::Moved => out.extend_from_slice(b"ok"),
-        Reply::Poor => out.extend_from_slice(b"poor"),
-        Reply::Number(number) => push_decimal(out, number),
-        Reply::Yes => out.extend_from_slice(b"true"),
-        Reply::No => out.extend_from_slice(b"false"),
-        Reply::Full => out.extend_from_slice(b"full"),
-        Reply::Absent => out.extend_from_slice(b"none"),
-        Reply::Never => out.extend_from_slice(b"never"),
-    }
-}
-
-fn push_replies(out: &mut Vec<u8>, replies: &[Reply]) -> Result<(), AllocError>
-    ensures { OnOk result (out.new.items ≡ out.old.items ++ replies_text replies.now) }
-{
-    let [first, further @ ..] = replies else {
-        return Ok(());
-    };
-    push_reply(out, *first)?;
-    for reply in further {
-        out.extend_from_slice(b" ; ")?;
-        push_reply(out, *reply)?;
-    }
-    Ok(())
-}
-
-fn push_row(out: &mut Vec<u8>, row: &Row) -> Result<(), AllocError>
-    ensures text { OnOk result (out.new.items ≡ out.old.items ++ row_text row.now) }
-    ensures fits { OnOk result (FitsRow row.now) }
-{
-    push_decimal(out, row.line)?;
-    push_field(out, u64::from(row.worker))?;
-    push_field(out, row.round)?;
-    out.push(b'.')?;
-    push_decimal(out, row.number)?;
-    out.push(b' ')?;
-    push_replies(out, row.replies.as_slice())?;
-    out.push(b'\n')?;
-    Ok(())
-}
-
-fn push_rows(out: &mut Vec<u8>, rows: &[Row]) -> Result<(), AllocError>
-    ensures text { OnOk result (out.new.items ≡ out.old.items ++ flat_map row_text rows.now) }
+// The rows behind a text. Each is written where there is room for any row.
+fn with_rows(out: Vec<u8>, rows: &[Row]) -> Result<Vec<u8>, AllocError>
+    ensures text { IfOk result (λ text. text.items ≡ out.items ++ flat_map row_text rows.now) }
     ensures fits { OnOk result (All FitsRow rows.now) }
 {
+    let mut out = out;
     for row in rows {
-        push_row(out, row)?;
+        out = with_room(out)?;
+        put_row(&mut out, row);
     }
-    Ok(())
+    Ok(out)
+}
+
+// The same text with room for a row behind it.
+#[inline(always)]
+fn with_room(out: Vec<u8>) -> Result<Vec<u8>, AllocError>
+    ensures items { IfOk result (λ text. text.items ≡ out.items) }
+    ensures room { IfOk result (λ text. vec_len text + 300 ≤ vec_capacity text) }
+{
+    if out.capacity() - out.len() >= ROW {
+        return Ok(out);
+    }
+    enlarged(out)
+}
+
+#[cold]
+#[inline(never)]
+fn enlarged(out: Vec<u8>) -> Result<Vec<u8>, AllocError>
+    ensures items { IfOk result (λ text. text.items ≡ out.items) }
+    ensures room { IfOk result (λ text. vec_len text + 300 ≤ vec_capacity text) }
+{
+    let mut out = out;
+    out.reserve(ROW)?;
+    Ok(out)
+}
+
+#[inline(always)]
+fn put_row(out: &mut Vec<u8>, row: &Row)
+    requires room { vec_len out.old + 300 ≤ vec_capacity out.old }
+    ensures text { out.new.items ≡ out.old.items ++ row_text row.now }
+    ensures fits { FitsRow row.now }
+{
+    put_decimal(out, row.line);
+    out.push_reserved(b' ');
+    put_decimal(out, u64::from(row.worker));
+    out.push_reserved(b' ');
+    put_decimal(out, row.round);
+    out.push_reserved(b'.');
+    put_decimal(out, row.number);
+    out.push_reserved(b' ');
+    put_replies(out, row.replies.as_slice());
+    out.push_reserved(b'\n');
+}
+
+#[inline(always)]
+fn put_replies(out: &mut Vec<u8>, replies: &[Reply])
+    requires short { length replies.now ≤ 8 }
+    requires room { vec_len out.old + 200 ≤ vec_capacity out.old }
+    ensures text { out.new.items ≡ out.old.items ++ replies_text replies.now }
+    ensures len { vec_len out.new ≤ vec_len out.old + 200 }
+    ensures capacity { vec_capacity out.new ≡ vec_capacity out.old }
+{
+    let [first, further @ ..] = replies else {
+        return;
+    };
+    put_reply(out, *first);
+    for reply in further {
+        put_word(out, b" ; ");
+        put_reply(out, *reply);
+    }
+}
+
+#[inline(always)]
+fn put_reply(out: &mut Vec<u8>, reply: Reply)
+    requires room { vec_len out.old + 20 ≤ vec_capacity out.old }
+    ensures text { out.new.items ≡ out.old.items ++ reply_text reply }
+    ensures len { vec_len out.new ≤ vec_len out.old + 20 }
+    ensures capacity { vec_capacity out.new ≡ vec_capacity out.old }
+{
+    match reply {
+        Reply::Moved => put_word(out, b"ok"),
+        Reply::Poor => put_word(out, b"poor"),
+        Reply::Number(number) => put_decimal(out, number),
+        Reply::Yes => put_word(out, b"true"),
+        Reply::No => put_word(out, b"false"),
+        Reply::Full => put_word(out, b"full"),
+        Reply::Absent => put_word(out, b"none"),
+        Reply::Never => put_word(out, b"never"),
+    }
+}
+
+// Puts a word of at most five bytes behind a text.
+#[inline(always)]
+fn put_word(out: &mut Vec<u8>, word: &[u8])
+    requires short { length word.now ≤ 5 }
+    requires room { vec_len out.old + 5 ≤ vec_capacity out.old }
+    ensures text { out.new.items ≡ out.old.items ++ word.now }
+    ensures len { vec_len out.new ≤ vec_len out.old + 5 }
+    ensures capacity { vec_capacity out.new ≡ vec_capacity out.old }
+{
+    for byte in word {
+        out.push_reserved(*byte);
+    }
 }
 
 fn push_numbers(out: &mut Vec<u8>, name: &[u8], numbers: &Option<Numbers>) -> Result<(), AllocError>

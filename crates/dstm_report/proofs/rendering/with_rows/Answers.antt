@@ -5,19 +5,20 @@ use Rattle.std.proofs.lemmas.List.Elements.{All-more}
 use Rattle.dstm_report.specs.declared.report.Row.{Row}
 use Rattle.dstm_report.specs.Reading.{FitsRow}
 use Rattle.dstm_report.specs.Text.{row_text}
-use Rattle.dstm_report.proofs.rendering.push_rows.Goals as goal
+use Rattle.dstm_report.proofs.rendering.with_rows.Goals as goal
 
 pub loop-row-preserved : goal.loop-row-preserved
 loop-row-preserved c =
-    let start = c.args.out.now.items in
+    let start = c.args.out.items in
     let rows = c.args.rows.now in
     let i = c.loop-row.row-index in
     let row = c.row-item.result in
-    let told = c.in_ok-push_row.ensures in
+    let told = c.put_row.ensures in
     let more = take_more rows i row c.loop-row-test.true
     ∙ ap (λ (r : Row). take i rows ++ r ∷ []) (sym c.row-item.is) in
     record {
-      text = told.text ∙ ap (λ (text : List ℕ). text ++ row_text row) c.loop-row.invariant.text
+      text = told.text
+          ∙ ap (λ (text : List ℕ). text ++ row_text row) (c.in_ok-out.ensures.items ∙ c.loop-row.invariant.text)
           ∙ flat_map_more row_text start (take i rows) row
           ∙ ap (λ (rs : List Row). start ++ flat_map row_text rs) (sym more);
       fits = All-more FitsRow rows i row c.loop-row-test.true c.loop-row.invariant.fits
