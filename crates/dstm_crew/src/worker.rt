@@ -48,8 +48,9 @@ impl Worker {
             if let Some(gate) = gate {
                 gate.pass(self.number, job.line);
             }
-            match try_job(style, &mut self.caller, table, &workload.layout, job) {
-                Ok(finished) => self.done.push(&finished),
+            let layout = &workload.layout;
+            match try_job(style, &mut self.caller, table, layout, job, &mut self.done) {
+                Ok(()) => (),
                 Err(_) => return,
             }
         }

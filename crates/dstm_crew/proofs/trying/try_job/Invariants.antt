@@ -6,7 +6,9 @@ use Rattle.dstm_crew.proofs.Retrying.{Waited}
 use Rattle.dstm_crew.proofs.trying.try_job.Given as goal
 
 abbrev pub invariant-loop-finished : goal.invariant-loop-finished
-invariant-loop-finished l = (l.turns ≤ 64) × Waited l.style l.initial.caller l.caller × (l.style ≢ Loose → let_go l.caller ≡ let_go l.initial.caller)
+invariant-loop-finished l =
+    (l.turns ≤ 64) × Waited l.style l.initial.caller l.caller × (l.style ≢ Loose → let_go l.caller ≡ let_go l.initial.caller)
+    × (l.all ≡ l.initial.all)
 
 abbrev pub decreases-loop-finished : goal.decreases-loop-finished
 decreases-loop-finished l = attempts_of (round_of l.caller) - begun l.caller

@@ -7,6 +7,7 @@ use Rattle.dstm_jobs.specs.declared.trying.Finished.{Finished}
 use Rattle.dstm_crew.specs.Done.{DoneAs}
 use Rattle.dstm_crew.specs.Releases.{releases}
 use Rattle.dstm_crew.specs.Tries.{HasLeft}
+use Rattle.dstm_crew.specs.Workers.{next_job}
 use Rattle.dstm_crew.proofs.Worked.{Stands, all_done, at_start, next_is, not_loose, one_done, stopped}
 use Rattle.dstm_crew.proofs.worker.Worker.run.Given.{Over}
 use Rattle.dstm_crew.proofs.worker.Worker.run.Goals.{After-try_job}
@@ -50,19 +51,20 @@ loop-at-preserved g c =
     let m = c.try_job.new.caller in
     let places = c.loop-at.self.places.items in
     let finished = c.loop-at.self.done.items in
-    let next : Finished = c.in-Ok.finished in
+    let told = c.in-Ok.ensures.done in
+    let next : Finished = told.0 in
     let place = c.index.result.now in
     let (more, at, is) = its_job g (goal.at.loop-at-preserved g c).After-try_job in
     let count : length finished ≡ c.loop-at.at = c.loop-at.invariant.2 in
     let job = c.index-jobs-index.result in
     let style = c.style_for-style.result in
     let stands : Stands workload style k m places (finished ++ next ∷ []) =
-    one_done place c.loop-at.invariant.4 c.in-Ok.ensures.done more at is in
-    let items : c.push.new.self.items ≡ finished ++ next ∷ [] = ap (λ (d : DoneAs). d.items) c.push.ensures in (
+    one_done place c.loop-at.invariant.4 told.1.0 more at is in
+    let items : c.try_job.new.all.items ≡ finished ++ next ∷ [] = ap (λ (d : DoneAs). d.items) told.1.1 in (
       c.loop-at.invariant.0,
       c.loop-at.invariant.1,
       ap length items ∙ length-append finished (next ∷ []) ∙ ap (λ (n : ℕ). n + 1) count,
-      subst (λ (n : ℕ). length places ≤ n) (sym (ap (λ (d : DoneAs). d.room) c.push.ensures)) c.loop-at.invariant.3,
+      subst (λ (n : ℕ). length places ≤ n) (sym (ap (λ (d : DoneAs). d.room) told.1.1)) c.loop-at.invariant.3,
       subst (λ (fs : List Finished). Stands workload style k m places fs) (sym items) stands,
       λ none.
           c.try_job.ensures.keeps
@@ -80,11 +82,14 @@ returns-in-Err-clause-run g c =
     let place = c.index.result.now in
     let (more, at, is) = its_job g (goal.at.returns-in-Err-clause-run g c).After-try_job in
     let job = c.index-jobs-index.result in
+    -- what it had done before is what it has done
+    let same : c.try_job.new.all.items ≡ finished = ap (λ (d : DoneAs). d.items) c.in-Err.ensures.same in
     stopped workload c.args.options.now c.args.self.now _ c.requires.ready.none_begun c.style_for-style.ensures
     c.loop-at.invariant.0 (ap (λ v. v.items) c.loop-at.invariant.1)
-    (releases c.args.options.now) job c.in-Err.field-0 c.loop-at.invariant.4
+    (releases c.args.options.now) job c.in-Err.field-0
+    (subst (λ (fs : List Finished). Stands workload c.style_for-style.result c.args.self.now.caller n places fs) (sym same) c.loop-at.invariant.4)
     (subst (λ (s : Style). HasLeft s workload.layout job n m c.in-Err.field-0) c.style_for-style.ensures c.in-Err.ensures.left)
-    (next_is workload.jobs places finished place more at is)
+    (next_is workload.jobs places finished place more at is ∙ ap (next_job workload.jobs places) (sym same))
 
 pub returns-clause-run : goal.returns-clause-run
 returns-clause-run g c =
