@@ -47,6 +47,7 @@ pub enum Left {
 
 /// Makes one attempt at a job. One that stands at a blocked job is given up: under DSTM after it has made sure so many times
 /// that what it has read stands. Only by the loose style reads are let go.
+#[inline(always)]
 pub fn attempt_job(
     style: Style,
     rechecks: u32,
@@ -71,6 +72,7 @@ pub fn attempt_job(
 }
 
 // The same, by its operations in order.
+#[inline(never)]
 fn attempt_plain(caller: &mut Caller, table: &Table, layout: &Layout, job: &Job) -> Tried
     requires table { home_of caller.old ≡ table.now }
     requires law { (law_of caller.old).layout ≡ layout.now }
@@ -91,6 +93,7 @@ fn attempt_plain(caller: &mut Caller, table: &Table, layout: &Layout, job: &Job)
 }
 
 // The same, and under DSTM it lets reads go.
+#[inline(never)]
 fn attempt_releasing(caller: &mut Caller, table: &Table, layout: &Layout, job: &Job) -> Tried
     requires table { home_of caller.old ≡ table.now }
     requires law { (law_of caller.old).layout ≡ layout.now }
@@ -108,6 +111,7 @@ fn attempt_releasing(caller: &mut Caller, table: &Table, layout: &Layout, job: &
 }
 
 // The same, by the first open branch.
+#[inline(never)]
 fn attempt_branches(
     rechecks: u32,
     caller: &mut Caller,
