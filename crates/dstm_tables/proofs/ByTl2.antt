@@ -1,23 +1,21 @@
 -- What an attempt leaves by TL2, in the words of both engines.
-use Rattle.std.proofs.Common.{◌≡◌, ◌∙◌, ◌<◌, ◌≤◌, ◌==◌, ◌⊎◌, ◌∷◌, ◌++◌, ℕ, List, [], Bool, None, Some, true, false, inl, inr, refl, sym, ap, subst, arith, Option, nat_lt, not}
-use Rattle.std.specs.Prelude.{if◌then◌else◌}
-use Rattle.dstm_mem.specs.Memory.{value_in}
-use Rattle.std.proofs.lemmas.Bool.{cases_eq, cond_both, ltb-false}
+use Rattle.std.proofs.Common.{◌≡◌, ◌∙◌, ◌<◌, ◌≤◌, ◌⊎◌, ◌∷◌, ◌++◌, ℕ, List, [], Bool, None, Some, true, false, inl, inr, refl, sym, ap, subst, arith, Option, nat_lt, not}
+use Rattle.std.proofs.lemmas.Bool.{cases_eq, ltb-false}
+use Rattle.std.proofs.lemmas.Bool.Decides.{nat_tests}
 use Rattle.dstm_model.specs.declared.value.Val.{Val}
 use Rattle.dstm_machines.proofs.Runs as runs
 use Rattle.dstm_machines.specs.Traces.{IsPastOf}
 use Rattle.dstm_tl2.specs.declared.kind.Kind.{Kind}
-use Rattle.dstm_tl2.specs.declared.kind.Kind.TheVariants.{Sample, LookAgain, Lock}
-use Rattle.dstm_tl2.specs.Rules.{AllowedAs, Event, after, lock, record_read}
+use Rattle.dstm_tl2.specs.declared.kind.Kind.TheVariants.{Sample}
+use Rattle.dstm_tl2.specs.Rules.{AllowedAs, Event, after}
 use Rattle.dstm_tl2.specs.Runs.{Run, local, tl2}
 use Rattle.dstm_tl2.specs.Sharing.{IsRunOf}
-use Rattle.dstm_tl2.specs.State.{LocalState, look_of}
+use Rattle.dstm_tl2.specs.State.{LocalState}
 use Rattle.dstm_tl2.specs.Words.{Table}
 use Rattle.dstm_tl2.proofs.Enrolment.{named}
 use Rattle.dstm_tl2_words.specs.Seats.{Home}
 use Rattle.dstm_tl2_order.specs.declared.again.TlAgain.{TlAgain}
 use Rattle.dstm_tl2_order.proofs.Draws.{valid_commits}
-use Rattle.dstm_model.specs.Answers.{Committed}
 use Rattle.dstm_tl2_engine.specs.Attempts.{Commits, Settles, done}
 use Rattle.dstm_tl2_engine.specs.Callers.{TlCalled, handed, held, is_opened, state, table_of_caller}
 use Rattle.dstm_tl2_engine.specs.Endings.{Attempts}
@@ -27,10 +25,11 @@ use Rattle.dstm_tl2_order.specs.Made.{LocksItsWrites}
 use Rattle.dstm_tl2_order.specs.Tasks.Task.{Beginning}
 use Rattle.dstm_tl2_engine.specs.Outcomes.{IsLeft}
 use Rattle.dstm_tl2_engine.specs.Transactions.{SpentFrom}
+use Rattle.dstm_tables.proofs.Left.{left_by}
 use Rattle.dstm_tables.specs.declared.tables.Caller.TheVariants.{Tl2}
 use Rattle.dstm_tables.specs.declared.tables.Table.TheVariants as table
 use Rattle.dstm_tables.specs.Callers.{AtRest}
-use Rattle.dstm_tables.specs.Tries.{Did, GoesOn, IsLeftBy, IsSpentFrom, OneMore, WasKept}
+use Rattle.dstm_tables.specs.Tries.{Did, GoesOn, IsSpentFrom, OneMore, WasKept}
 
 -- ---- of every run
 
@@ -55,14 +54,7 @@ begun_le t (e ∷ es) run c =
     step : (l : LocalState) (k : Kind) → AllowedAs k t l e → l.begun ≤ t.attempts →
         (after k t l e).begun ≤ t.attempts
     step l Sample a h = let x = a.2.1 in omega arith
-    step l LookAgain a h =
-        cond_both (e.found == (look_of l).word) (record_read l) (record l { look = None })
-        (λ (m : LocalState). m.begun ≤ t.attempts) (λ _. h) (λ _. h)
-    step l (Lock w) a h =
-        cond_both (e.found == e.expected) (lock l w.value)
-        (record l { look = None; writes = Some w.value; failed = true })
-        (λ (m : LocalState). m.begun ≤ t.attempts) (λ _. h) (λ _. h)
-    step l k a h = h
+    step l k a h = grind (arith, nat_tests)
 
 not_less : (a b : ℕ) → not (nat_lt a b) ≡ true → b ≤ a
 not_less a b h = ltb-false a b (denied (nat_lt a b) h)
@@ -79,24 +71,6 @@ number_below t (e ∷ es) c run has = go (cases_eq e.caller c) (number_below t e
     go : (e.caller ≡ c) ⊎ (e.caller ≡ c → ⊥) → ((local t es c).number ≡ Some c → c < t.callers) → c < t.callers
     go (inl q) ih = subst (λ n. n < t.callers) q run.1.caller
     go (inr q) ih = ih (ap (λ (l : LocalState). l.number) (sym (runs.local_other tl2 t es e c q)) ∙ has)
-
-module _ {L : Type 0} where
-  -- what a run has left, where it is committed, is its entry
-  tl2_left : {leaves : (ℕ → Option Val) → (ℕ → Bool) → Type 0} (ran n : TlCalled L) (drawn : ℕ) → Commits ran n drawn →
-      leaves (held ran) (is_opened ran) → {by : Committed} {before : List Committed} → done n ≡ by ∷ before →
-      IsLeftBy leaves by.entry
-  tl2_left ran n drawn commits left {by = by} is =
-      let same : by ≡ record { caller = ran.number; number = drawn; entry = commits.entry } =
-      let newest = commits.done in cc in
-      record {
-        held = held ran;
-        opened = is_opened ran;
-        left = left;
-        reads = λ o. ap (λ (c : Committed). value_in c.entry.reads o) same ∙ commits.reads o;
-        writes = λ o unopened.
-            ap (λ (c : Committed). value_in c.entry.writes o) same ∙ commits.writes o
-            ∙ ap (λ (b : Bool). if b then handed ran o else None) unopened;
-      }
 
 module _ {L : Type 0} {holds : L → List Val → Type 0} where
   -- ---- of a caller
@@ -137,7 +111,7 @@ module _ {L : Type 0} {holds : L → List Val → Type 0} where
         entry = s.entry;
         newest = s.done;
         right = s.right;
-        left = tl2_left ran n drawn commits left s.done;
+        left = left_by (held ran) (handed ran) (is_opened ran) commits.done s.done left commits.reads commits.writes;
         sighted = tt;
       }
 

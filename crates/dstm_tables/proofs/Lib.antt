@@ -1,6 +1,7 @@
 pub mod Entries
 pub mod Unused
 pub mod SeenLast
+mod Left
 pub mod ByTl2
 pub mod StayingByDstm
 pub mod Calls

@@ -1,7 +1,6 @@
 -- What an attempt leaves by DSTM, from the clauses of the engine's calls.
-use Rattle.std.proofs.Common.{◌≡◌, ◌∙◌, ◌+◌, ◌-◌, ◌*◌, ◌<◌, ◌≤◌, ◌++◌, ◌∷◌, ℕ, Bool, List, [], None, Some, true, sym, ap, subst, arith, is_some, eq-eqb, eqb-true}
-use Rattle.std.specs.Prelude.{IfSome, Option, if◌then◌else◌}
-use Rattle.dstm_mem.specs.Memory.{value_in}
+use Rattle.std.proofs.Common.{◌≡◌, ◌∙◌, ◌+◌, ◌-◌, ◌*◌, ◌<◌, ◌≤◌, ◌++◌, ℕ, Bool, List, [], Some, true, sym, ap, subst, arith, is_some, eq-eqb, eqb-true}
+use Rattle.std.specs.Prelude.{IfSome, Option}
 use Rattle.dstm_model.specs.Answers.{Committed}
 use Rattle.dstm_model.specs.declared.value.Val.{Val}
 use Rattle.dstm_core.specs.Events.{Event}
@@ -26,28 +25,11 @@ use Rattle.dstm_tables.specs.Attempts.{HasCommitted, WasAborted}
 use Rattle.dstm_tables.specs.declared.tables.Caller.TheVariants.{Dstm}
 use Rattle.dstm_tables.specs.declared.tables.Table.TheVariants as table
 use Rattle.dstm_tables.specs.Callers.{AtRest}
-use Rattle.dstm_tables.specs.Tries.{Did, IsLeftBy, IsSpentFrom, OneMore, WasKept}
+use Rattle.dstm_tables.specs.Tries.{Did, IsSpentFrom, OneMore, WasKept}
+use Rattle.dstm_tables.proofs.Left.{left_by}
 use Rattle.dstm_engine.proofs.Attempting.{attempt_makes}
 use Rattle.dstm_engine.proofs.Anew.{new_after}
 use Rattle.dstm_engine.proofs.Spending.{spent_fresh, spent_makes}
-
-module _ {L : Type 0} where
-  -- what a run has left, where it is committed, is its entry
-  left_by : {leaves : (ℕ → Option Val) → (ℕ → Bool) → Type 0} (ran n : Called L) (drawn : ℕ) → Commits ran n drawn →
-      leaves (held ran) (is_opened ran) → {by : Committed} {before : List Committed} → done n ≡ by ∷ before →
-      IsLeftBy leaves by.entry
-  left_by ran n drawn commits left {by = by} is =
-      let same : by ≡ record { caller = ran.number; number = drawn; entry = commits.entry } =
-      let newest = commits.done in cc in
-      record {
-        held = held ran;
-        opened = is_opened ran;
-        left = left;
-        reads = λ o. ap (λ (c : Committed). value_in c.entry.reads o) same ∙ commits.reads o;
-        writes = λ o unopened.
-            ap (λ (c : Committed). value_in c.entry.writes o) same ∙ commits.writes o
-            ∙ ap (λ (b : Bool). if b then handed ran o else None) unopened;
-      }
 
 module _ {L : Type 0} {holds : L → List Val → Type 0} where
   -- ---- the caller's number
@@ -138,7 +120,7 @@ module _ {L : Type 0} {holds : L → List Val → Type 0} where
     entry = s.entry;
     newest = s.done;
     right = λ map size lawful agrees. s.right map (size ∙ rest.run.run.values) lawful agrees;
-    left = left_by ran n drawn commits left s.done;
+    left = left_by (held ran) (handed ran) (is_opened ran) commits.done s.done left commits.reads commits.writes;
     sighted = omega (arith, few);
   }
 

@@ -12,6 +12,7 @@ use Rattle.dstm_core.specs.declared.event.Kind.{Kind}
 use Rattle.dstm_core.specs.declared.event.Kind.TheVariants.{Begin, Install, LookSelf, Pause, Quit, Rank, Resume, Stamp, Validating as ToValidating}
 use Rattle.dstm_core.specs.declared.shape.Shape.{Shape}
 use Rattle.dstm_core.specs.declared.state.Write.{Write}
+use Rattle.dstm_progress.proofs.Beginnings.{begin_kind}
 use Rattle.dstm_order.specs.Calls.{Obeys, newest_of, state_after}
 use Rattle.dstm_order.specs.Order.{IsDue, has_begun, has_ranks, has_stamps, is_spent, just, rises}
 use Rattle.dstm_order.specs.Order.Due.{Done, Step}
@@ -52,10 +53,6 @@ installs s l e Install other n h =
     }
 installs s l e k other n h = let same = stays s l e k (λ q. cc) in rw (same.0, same.1 other) h
 
-is_one : (k : Kind) → is_begin k ≡ true → k ≡ Begin
-is_one Begin is = refl
-is_one k is = absurd (cc)
-
 is_none : (k : Kind) → is_begin k ≡ false → k ≢ Begin
 is_none Begin is q = cc
 is_none k is q = cc
@@ -75,7 +72,7 @@ installed_there s c (e ∷ log) = by (cases_eq e.caller c) (cases_Bool (is_begin
     by (inl own) (inl begins) ih =
         let now : local s (e ∷ log) c ≡ after e.kind s (local s log e.caller) e =
         ap (local s (e ∷ log)) (sym own) ∙ local_own s log e in
-        let none : (local s (e ∷ log) c).writes ≡ [] = rw (now, is_one e.kind begins) refl in
+        let none : (local s (e ∷ log) c).writes ≡ [] = rw (now, begin_kind e.kind begins) refl in
         ap (λ (l : List Event). (local s l c).installed)
         (sym (cond-true ((e.caller == c) && is_begin e.kind) (e ∷ log) (begun_log c log)
         (rw (eq-eqb e.caller c own, begins) refl)))
