@@ -83,17 +83,18 @@ module _ {layout : Layout} {before after : List Val} where
       × HasKeys (list_region layout) after (adding n key store.keys).keys) (sym list.capacity)
       (adds store.keys list.holds))
 
+  -- what is left of the keys is left of the store
+  in_store : {A : Type 0} {store : Store} {keys : List ℕ} → IsList layout before store →
+      A × HasKeys (list_region layout) after keys → A × IsList layout after (record store { keys = keys })
+  in_store list (same, holds) = (same, record { holds = holds; capacity = list.capacity })
+
   removed : (key : ℕ) {reply : Reply} → TakesOut (list_region layout) key reply before after →
       Does (IsList layout) (Remove which.List key) before after reply
-  removed key takes store list =
-      let (same, holds) = takes store.keys list.holds in
-      (same, record { holds = holds; capacity = list.capacity })
+  removed key takes store list = in_store list (takes store.keys list.holds)
 
   told : (key : ℕ) {reply : Reply} → Tells (list_region layout) key reply before after →
       Does (IsList layout) (Member which.List key) before after reply
-  told key tells store list =
-      let (same, holds) = tells store.keys list.holds in
-      (same, record { holds = holds; capacity = list.capacity })
+  told key tells store list = in_store list (tells store.keys list.holds)
 
 -- ---- a call on the region of a layout's list
 
