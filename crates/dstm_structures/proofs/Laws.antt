@@ -1,6 +1,6 @@
 -- What a program proves of a law over maps and cells: that what is left is lawful, by what the calls have done; and that a map
 -- has what it had where its cells are as they were.
-use Rattle.std.proofs.Common.{◌≡◌, ◌∙◌, ◌⊎◌, inl, inr, ◌++◌, ◌==◌, ℕ, ◌+◌, ◌*◌, ◌<◌, ◌≤◌, List, ap, arith, cond, get_or-set_other, get_or-set_same, length, length-append, length-set, nat_lt, subst, sym}
+use Rattle.std.proofs.Common.{◌≡◌, ◌∙◌, ◌⊎◌, inl, inr, ◌==◌, ℕ, ◌+◌, ◌*◌, ◌<◌, ◌≤◌, List, ap, arith, cond, get_or-set_other, get_or-set_same, length, length-append, length-set, nat_lt, subst}
 use Rattle.std.proofs.lemmas.Bool.{cases_eq}
 use Rattle.std.proofs.lemmas.List.{get_or_append_left}
 use Rattle.std.specs.Prelude.{Option, None, Some}

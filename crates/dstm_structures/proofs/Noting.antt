@@ -11,10 +11,10 @@ set_back-append [] later map = refl
 set_back-append (undo ∷ first) later map =
     ap (λ (xs : List Val). slice_set xs undo.object undo.value) (set_back-append first later map)
 
-module _ {L : Type 0} (holds : L → List Val → Type 0) where
+module _ {L : Type 0} {holds : L → List Val → Type 0} where
   -- nothing was done
-  pub notes_still : (k : Noting L) → Notes holds k k
-  notes_still k = record {
+  pub notes_still : {k : Noting L} → Notes holds k k
+  notes_still {k} = record {
     keeps = refl;
     same = refl;
     noted = λ is. record {
@@ -25,8 +25,8 @@ module _ {L : Type 0} (holds : L → List Val → Type 0) where
     };
   }
 
-  pub notes_twice : (k m n : Noting L) → Notes holds k m → Notes holds m n → Notes holds k n
-  notes_twice k m n one two = record {
+  pub notes_twice : {k m n : Noting L} → Notes holds k m → Notes holds m n → Notes holds k n
+  notes_twice {k} {m} {n} one two = record {
     keeps = two.keeps ∙ one.keeps;
     same = two.same ∙ one.same;
     noted = λ is.
@@ -43,5 +43,5 @@ module _ {L : Type 0} (holds : L → List Val → Type 0) where
         };
   }
 
-  pub notes_thrice : (k m l n : Noting L) → Notes holds k m → Notes holds m l → Notes holds l n → Notes holds k n
-  notes_thrice k m l n one two three = notes_twice k l n (notes_twice k m l one two) three
+  pub notes_thrice : {k m l n : Noting L} → Notes holds k m → Notes holds m l → Notes holds l n → Notes holds k n
+  notes_thrice one two three = notes_twice (notes_twice one two) three

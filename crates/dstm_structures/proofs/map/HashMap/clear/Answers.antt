@@ -1,5 +1,4 @@
 use Rattle.std.proofs.Common.{◌∙◌, ◌+◌, arith}
-use Rattle.dstm_cells.specs.Alternatives.{noting}
 use Rattle.dstm_structures.specs.Maps.{ClearsAll, Empties, Reaches, end_of}
 use Rattle.dstm_structures.proofs.Doing.{does-as, does-then}
 use Rattle.dstm_structures.proofs.Mapping.{Clearing, clear-end, clear-next, clear-start}
@@ -21,15 +20,12 @@ pub returns-in_err-empty-clause-keeps : goal.returns-in_err-empty-clause-keeps
 returns-in_err-empty-clause-keeps g c = c.in_err-empty.ensures.keeps ∙ c.loop-passed.invariant.0
 
 pub returns-in_err-empty-clause-notes : goal.returns-in_err-empty-clause-notes
-returns-in_err-empty-clause-notes g c =
-    notes_twice g.L.Law.holds (noting c.args.tx.now) (noting c.loop-passed.tx) (noting c.empty.new.tx)
-    c.loop-passed.invariant.1 c.in_err-empty.ensures.notes
+returns-in_err-empty-clause-notes g c = notes_twice c.loop-passed.invariant.1 c.in_err-empty.ensures.notes
 
 pub loop-passed-preserved : goal.loop-passed-preserved
 loop-passed-preserved g c = (
   c.in_ok-empty.ensures.keeps ∙ c.loop-passed.invariant.0,
-  notes_twice g.L.Law.holds (noting c.args.tx.now) (noting c.loop-passed.tx) (noting c.empty.new.tx)
-      c.loop-passed.invariant.1 c.in_ok-empty.ensures.notes,
+  notes_twice c.loop-passed.invariant.1 c.in_ok-empty.ensures.notes,
   does-then g.L.Law.holds (end_of c.args.self) (Clearing c.args.self c.args.key c.in_ok-reach.reach c.loop-passed.passed)
       (Empties c.args.self c.behind.result c.args.key)
       (Clearing c.args.self c.args.key c.in_ok-reach.reach (c.loop-passed.passed + 1)) c.args.tx.now.attempts.caller

@@ -1,6 +1,5 @@
 use Rattle.std.proofs.Common.{◌∙◌, sym}
 use Rattle.std.specs.Prelude.{None}
-use Rattle.dstm_cells.specs.Alternatives.{noting}
 use Rattle.dstm_structures.specs.Maps.{Empties, end_of, key_of}
 use Rattle.dstm_structures.proofs.Doing.{Reads, does-as, does-read, then-write}
 use Rattle.dstm_structures.proofs.Mapping.{empties-none, empties-some}
@@ -17,14 +16,10 @@ returns-then-not-is_key-clause-empties g c =
     c.key_at.ensures (sym c.is_key.ensures ∙ c.if-not-is_key.true))
 
 pub returns-in_err-set-clause-notes : goal.returns-in_err-set-clause-notes
-returns-in_err-set-clause-notes g c =
-    notes_twice g.L.Law.holds (noting c.args.tx.now) (noting c.get.new.self) (noting c.set.new.self)
-    c.in_ok-held.ensures.notes c.in_err-set.ensures.notes
+returns-in_err-set-clause-notes g c = notes_twice c.in_ok-held.ensures.notes c.in_err-set.ensures.notes
 
 pub returns-clause-notes : goal.returns-clause-notes
-returns-clause-notes g c =
-    notes_twice g.L.Law.holds (noting c.args.tx.now) (noting c.get.new.self) (noting c.set.new.self)
-    c.in_ok-held.ensures.notes c.in_ok-set.ensures.notes
+returns-clause-notes g c = notes_twice c.in_ok-held.ensures.notes c.in_ok-set.ensures.notes
 
 pub returns-clause-empties : goal.returns-clause-empties
 returns-clause-empties g c =

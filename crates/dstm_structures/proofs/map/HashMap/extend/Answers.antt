@@ -1,5 +1,4 @@
 use Rattle.std.proofs.Common.{arith}
-use Rattle.dstm_cells.specs.Alternatives.{noting}
 use Rattle.dstm_structures.specs.Maps.{Extends, Reaches, end_of, reach_of}
 use Rattle.dstm_structures.proofs.Doing.{then-write}
 use Rattle.dstm_structures.proofs.Mapping.{extend-more}
@@ -7,14 +6,10 @@ use Rattle.dstm_structures.proofs.Noting.{notes_twice}
 use Rattle.dstm_structures.proofs.map.HashMap.extend.Goals as goal
 
 pub returns-in_err-set-clause-notes : goal.returns-in_err-set-clause-notes
-returns-in_err-set-clause-notes g c =
-    notes_twice g.L.Law.holds (noting c.args.tx.now) (noting c.reach.new.tx) (noting c.set.new.self)
-    c.in_ok-reach.ensures.notes c.in_err-set.ensures.notes
+returns-in_err-set-clause-notes g c = notes_twice c.in_ok-reach.ensures.notes c.in_err-set.ensures.notes
 
 pub returns-clause-notes : goal.returns-clause-notes
-returns-clause-notes g c =
-    notes_twice g.L.Law.holds (noting c.args.tx.now) (noting c.reach.new.tx) (noting c.set.new.self)
-    c.in_ok-reach.ensures.notes c.in_ok-set.ensures.notes
+returns-clause-notes g c = notes_twice c.in_ok-reach.ensures.notes c.in_ok-set.ensures.notes
 
 pub returns-clause-extends : goal.returns-clause-extends
 returns-clause-extends g c =

@@ -1,6 +1,5 @@
 use Rattle.std.proofs.Common.{◌∙◌, ◌+◌, arith, sym}
 use Rattle.std.specs.Prelude.{None, Some}
-use Rattle.dstm_cells.specs.Alternatives.{noting}
 use Rattle.dstm_structures.specs.Maps.{Reaches, Seeks, end_of, key_of}
 use Rattle.dstm_structures.proofs.Doing.{does-as, then-read}
 use Rattle.dstm_structures.proofs.Mapping.{Seeking, seek-found, seek-next, seek-none, seek-start}
@@ -22,17 +21,13 @@ pub returns-in_err-held-clause-keeps : goal.returns-in_err-held-clause-keeps
 returns-in_err-held-clause-keeps g c = c.in_err-held.ensures.keeps ∙ c.loop-passed.invariant.0
 
 pub returns-in_err-held-clause-notes : goal.returns-in_err-held-clause-notes
-returns-in_err-held-clause-notes g c =
-    notes_twice g.L.Law.holds (noting c.args.tx.now) (noting c.loop-passed.tx) (noting c.get.new.self)
-    c.loop-passed.invariant.1 c.in_err-held.ensures.notes
+returns-in_err-held-clause-notes g c = notes_twice c.loop-passed.invariant.1 c.in_err-held.ensures.notes
 
 pub returns-then-is_key-clause-keeps : goal.returns-then-is_key-clause-keeps
 returns-then-is_key-clause-keeps g c = c.in_ok-held.ensures.keeps ∙ c.loop-passed.invariant.0
 
 pub returns-then-is_key-clause-notes : goal.returns-then-is_key-clause-notes
-returns-then-is_key-clause-notes g c =
-    notes_twice g.L.Law.holds (noting c.args.tx.now) (noting c.loop-passed.tx) (noting c.get.new.self)
-    c.loop-passed.invariant.1 c.in_ok-held.ensures.notes
+returns-then-is_key-clause-notes g c = notes_twice c.loop-passed.invariant.1 c.in_ok-held.ensures.notes
 
 pub returns-then-is_key-clause-seeks : goal.returns-then-is_key-clause-seeks
 returns-then-is_key-clause-seeks g c =
@@ -48,8 +43,7 @@ returns-then-is_key-clause-seeks g c =
 pub loop-passed-preserved : goal.loop-passed-preserved
 loop-passed-preserved g c = (
   c.in_ok-held.ensures.keeps ∙ c.loop-passed.invariant.0,
-  notes_twice g.L.Law.holds (noting c.args.tx.now) (noting c.loop-passed.tx) (noting c.get.new.self)
-      c.loop-passed.invariant.1 c.in_ok-held.ensures.notes,
+  notes_twice c.loop-passed.invariant.1 c.in_ok-held.ensures.notes,
   then-read g.L.Law.holds (end_of c.args.self) (Seeking c.args.self c.args.key c.in_ok-reach.reach c.loop-passed.passed)
       (Seeking c.args.self c.args.key c.in_ok-reach.reach (c.loop-passed.passed + 1)) key_of c.args.tx.now.attempts.caller
       c.loop-passed.tx.attempts.caller c.get.new.self.attempts.caller c.key_at.result.object c.in_ok-held.held

@@ -1,6 +1,5 @@
 use Rattle.std.proofs.Common.{ℕ, subst}
 use Rattle.std.specs.Prelude.{Option, Some}
-use Rattle.dstm_cells.specs.Alternatives.{noting}
 use Rattle.dstm_structures.specs.Effects.{Does}
 use Rattle.dstm_structures.specs.Maps.{Seeks, Tells, end_of}
 use Rattle.dstm_structures.proofs.Doing.{then-read}
@@ -9,14 +8,10 @@ use Rattle.dstm_structures.proofs.Noting.{notes_twice}
 use Rattle.dstm_structures.proofs.map.HashMap.get.Goals as goal
 
 pub returns-in_err-value-clause-notes : goal.returns-in_err-value-clause-notes
-returns-in_err-value-clause-notes g c =
-    notes_twice g.L.Law.holds (noting c.args.tx.now) (noting c.find.new.tx) (noting c.get.new.self)
-    c.in_ok-found.ensures.notes c.in_err-value.ensures.notes
+returns-in_err-value-clause-notes g c = notes_twice c.in_ok-found.ensures.notes c.in_err-value.ensures.notes
 
 pub returns-clause-notes : goal.returns-clause-notes
-returns-clause-notes g c =
-    notes_twice g.L.Law.holds (noting c.args.tx.now) (noting c.find.new.tx) (noting c.get.new.self)
-    c.in_ok-found.ensures.notes c.in_ok-value.ensures.notes
+returns-clause-notes g c = notes_twice c.in_ok-found.ensures.notes c.in_ok-value.ensures.notes
 
 pub returns-clause-tells : goal.returns-clause-tells
 returns-clause-tells g c =

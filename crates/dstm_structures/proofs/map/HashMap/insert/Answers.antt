@@ -1,6 +1,5 @@
 use Rattle.std.proofs.Common.{ℕ, ◌+◌, ◌<◌, subst}
 use Rattle.std.specs.Prelude.{IfSome, None, Option, Some}
-use Rattle.dstm_cells.specs.Alternatives.{noting}
 use Rattle.dstm_structures.specs.Effects.{Does}
 use Rattle.dstm_structures.specs.Maps.{Extends, Frees, Inserts, Stores, end_of}
 use Rattle.dstm_structures.proofs.Doing.{does-as, does-thrice}
@@ -19,19 +18,15 @@ returns-in_default-clause-inserts g c =
     c.args.self.cells.some c.home-home.ensures.home)
 
 pub returns-in_err-store-clause-notes : goal.returns-in_err-store-clause-notes
-returns-in_err-store-clause-notes g c =
-    notes_twice g.L.Law.holds (noting c.args.tx.now) (noting c.free.new.tx) (noting c.store.new.tx)
-    c.in_ok-free.ensures.notes c.in_err-store.ensures.notes
+returns-in_err-store-clause-notes g c = notes_twice c.in_ok-free.ensures.notes c.in_err-store.ensures.notes
 
 pub returns-in_err-extend-clause-notes : goal.returns-in_err-extend-clause-notes
 returns-in_err-extend-clause-notes g c =
-    notes_thrice g.L.Law.holds (noting c.args.tx.now) (noting c.free.new.tx) (noting c.store.new.tx) (noting c.extend.new.tx)
-    c.in_ok-free.ensures.notes c.in_ok-store.ensures.notes c.in_err-extend.ensures.notes
+    notes_thrice c.in_ok-free.ensures.notes c.in_ok-store.ensures.notes c.in_err-extend.ensures.notes
 
 pub returns-clause-notes : goal.returns-clause-notes
 returns-clause-notes g c =
-    notes_thrice g.L.Law.holds (noting c.args.tx.now) (noting c.free.new.tx) (noting c.store.new.tx) (noting c.extend.new.tx)
-    c.in_ok-free.ensures.notes c.in_ok-store.ensures.notes c.in_ok-extend.ensures.notes
+    notes_thrice c.in_ok-free.ensures.notes c.in_ok-store.ensures.notes c.in_ok-extend.ensures.notes
 
 pub returns-clause-inserts : goal.returns-clause-inserts
 returns-clause-inserts g c =

@@ -1,5 +1,4 @@
 use Rattle.std.proofs.Common.{◌∙◌, ◌+◌, arith, refl}
-use Rattle.dstm_cells.specs.Alternatives.{noting}
 use Rattle.dstm_structures.specs.Items.{Counts, Stands}
 use Rattle.dstm_structures.specs.Maps.{end_of}
 use Rattle.dstm_structures.proofs.Doing.{does-as, does-still, does-then}
@@ -11,7 +10,7 @@ pub loop-at-init : goal.loop-at-init
 loop-at-init g c = (
   omega arith,
   refl,
-  notes_still g.L.Law.holds (noting c.args.tx.now),
+  notes_still,
   does-still g.L.Law.holds (end_of c.args.self) (Counting g.V.Word.found c.args.self 0 0) c.args.tx.now.attempts.caller
       (λ values. count-start g.V.Word.found c.args.self values),
 )
@@ -20,16 +19,13 @@ pub returns-in_err-key-clause-keeps : goal.returns-in_err-key-clause-keeps
 returns-in_err-key-clause-keeps g c = c.in_err-key.ensures.keeps ∙ c.loop-at.invariant.1
 
 pub returns-in_err-key-clause-notes : goal.returns-in_err-key-clause-notes
-returns-in_err-key-clause-notes g c =
-    notes_twice g.L.Law.holds (noting c.args.tx.now) (noting c.loop-at.tx) (noting c.stands.new.tx)
-    c.loop-at.invariant.2 c.in_err-key.ensures.notes
+returns-in_err-key-clause-notes g c = notes_twice c.loop-at.invariant.2 c.in_err-key.ensures.notes
 
 pub loop-at-preserved : goal.loop-at-preserved
 loop-at-preserved g c = (
   omega (arith, c.loop-at.invariant.0, c.one_if-count.ensures.few),
   c.in_ok-key.ensures.keeps ∙ c.loop-at.invariant.1,
-  notes_twice g.L.Law.holds (noting c.args.tx.now) (noting c.loop-at.tx) (noting c.stands.new.tx)
-      c.loop-at.invariant.2 c.in_ok-key.ensures.notes,
+  notes_twice c.loop-at.invariant.2 c.in_ok-key.ensures.notes,
   does-then g.L.Law.holds (end_of c.args.self) (Counting g.V.Word.found c.args.self c.loop-at.at c.loop-at.count)
       (Stands c.args.self c.loop-at.at c.in_ok-key.key)
       (Counting g.V.Word.found c.args.self (c.loop-at.at + 1) (c.loop-at.count + c.one_if-count.result))

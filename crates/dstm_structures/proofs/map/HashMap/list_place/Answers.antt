@@ -1,4 +1,3 @@
-use Rattle.dstm_cells.specs.Alternatives.{noting}
 use Rattle.dstm_structures.specs.Items.{ListsPlace, Stands}
 use Rattle.dstm_structures.specs.Maps.{end_of}
 use Rattle.dstm_structures.proofs.Doing.{does-as, then-read}
@@ -15,19 +14,13 @@ returns-in_default-clause-lists g c =
     after c.in_default.is)
 
 pub returns-in_err-value-clause-notes : goal.returns-in_err-value-clause-notes
-returns-in_err-value-clause-notes g c =
-    notes_twice g.L.Law.holds (noting c.args.tx.now) (noting c.stands.new.tx) (noting c.get.new.self)
-    c.in_ok-found.ensures.notes c.in_err-value.ensures.notes
+returns-in_err-value-clause-notes g c = notes_twice c.in_ok-found.ensures.notes c.in_err-value.ensures.notes
 
 pub returns-in_err-push-clause-notes : goal.returns-in_err-push-clause-notes
-returns-in_err-push-clause-notes g c =
-    notes_twice g.L.Law.holds (noting c.args.tx.now) (noting c.stands.new.tx) (noting c.get.new.self)
-    c.in_ok-found.ensures.notes c.in_ok-value.ensures.notes
+returns-in_err-push-clause-notes g c = notes_twice c.in_ok-found.ensures.notes c.in_ok-value.ensures.notes
 
 pub returns-clause-notes : goal.returns-clause-notes
-returns-clause-notes g c =
-    notes_twice g.L.Law.holds (noting c.args.tx.now) (noting c.stands.new.tx) (noting c.get.new.self)
-    c.in_ok-found.ensures.notes c.in_ok-value.ensures.notes
+returns-clause-notes g c = notes_twice c.in_ok-found.ensures.notes c.in_ok-value.ensures.notes
 
 pub returns-clause-lists : goal.returns-clause-lists
 returns-clause-lists g c =

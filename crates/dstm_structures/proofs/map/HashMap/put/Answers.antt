@@ -1,6 +1,5 @@
 use Rattle.std.proofs.Common.{ℕ, ◌<◌, subst}
 use Rattle.std.specs.Prelude.{IfSome, None, Option, Some}
-use Rattle.dstm_cells.specs.Alternatives.{noting}
 use Rattle.dstm_structures.specs.Effects.{Does}
 use Rattle.dstm_structures.specs.Maps.{Inserts, Puts, Seeks, end_of}
 use Rattle.dstm_structures.specs.declared.map.Placed.TheVariants.{Instead}
@@ -10,14 +9,10 @@ use Rattle.dstm_structures.proofs.Noting.{notes_twice}
 use Rattle.dstm_structures.proofs.map.HashMap.put.Goals as goal
 
 pub returns-in_err-place-clause-notes : goal.returns-in_err-place-clause-notes
-returns-in_err-place-clause-notes g c =
-    notes_twice g.L.Law.holds (noting c.args.tx.now) (noting c.find.new.tx) (noting c.insert.new.tx)
-    c.in_ok-found.ensures.notes c.in_err-place.ensures.notes
+returns-in_err-place-clause-notes g c = notes_twice c.in_ok-found.ensures.notes c.in_err-place.ensures.notes
 
 pub returns-in_default-clause-notes : goal.returns-in_default-clause-notes
-returns-in_default-clause-notes g c =
-    notes_twice g.L.Law.holds (noting c.args.tx.now) (noting c.find.new.tx) (noting c.insert.new.tx)
-    c.in_ok-found.ensures.notes c.in_ok-place.ensures.notes
+returns-in_default-clause-notes g c = notes_twice c.in_ok-found.ensures.notes c.in_ok-place.ensures.notes
 
 pub returns-in_default-clause-puts : goal.returns-in_default-clause-puts
 returns-in_default-clause-puts g c =
@@ -32,14 +27,10 @@ returns-in_default-clause-puts g c =
     c.outcome.result before mid after c.outcome.ensures)
 
 pub returns-in_err-had-clause-notes : goal.returns-in_err-had-clause-notes
-returns-in_err-had-clause-notes g c =
-    notes_twice g.L.Law.holds (noting c.args.tx.now) (noting c.find.new.tx) (noting c.replace.new.self)
-    c.in_ok-found.ensures.notes c.in_err-had.ensures.notes
+returns-in_err-had-clause-notes g c = notes_twice c.in_ok-found.ensures.notes c.in_err-had.ensures.notes
 
 pub returns-clause-notes : goal.returns-clause-notes
-returns-clause-notes g c =
-    notes_twice g.L.Law.holds (noting c.args.tx.now) (noting c.find.new.tx) (noting c.replace.new.self)
-    c.in_ok-found.ensures.notes c.in_ok-had.ensures.notes
+returns-clause-notes g c = notes_twice c.in_ok-found.ensures.notes c.in_ok-had.ensures.notes
 
 pub returns-clause-puts : goal.returns-clause-puts
 returns-clause-puts g c =

@@ -1,6 +1,5 @@
 use Rattle.std.proofs.Common.{subst}
 use Rattle.std.specs.Prelude.{Option, Some}
-use Rattle.dstm_cells.specs.Alternatives.{noting}
 use Rattle.dstm_structures.specs.Effects.{Does}
 use Rattle.dstm_structures.specs.Maps.{ClearsAll, Removes, Tells, end_of}
 use Rattle.dstm_structures.proofs.Doing.{does-then}
@@ -9,14 +8,10 @@ use Rattle.dstm_structures.proofs.Noting.{notes_twice}
 use Rattle.dstm_structures.proofs.map.HashMap.remove.Goals as goal
 
 pub returns-in_err-clear-clause-notes : goal.returns-in_err-clear-clause-notes
-returns-in_err-clear-clause-notes g c =
-    notes_twice g.L.Law.holds (noting c.args.tx.now) (noting c.get.new.tx) (noting c.clear.new.tx)
-    c.in_ok-found.ensures.notes c.in_err-clear.ensures.notes
+returns-in_err-clear-clause-notes g c = notes_twice c.in_ok-found.ensures.notes c.in_err-clear.ensures.notes
 
 pub returns-clause-notes : goal.returns-clause-notes
-returns-clause-notes g c =
-    notes_twice g.L.Law.holds (noting c.args.tx.now) (noting c.get.new.tx) (noting c.clear.new.tx)
-    c.in_ok-found.ensures.notes c.in_ok-clear.ensures.notes
+returns-clause-notes g c = notes_twice c.in_ok-found.ensures.notes c.in_ok-clear.ensures.notes
 
 pub returns-clause-removes : goal.returns-clause-removes
 returns-clause-removes g c =

@@ -1,6 +1,5 @@
 use Rattle.std.proofs.Common.{◌∙◌, sym}
 use Rattle.std.specs.Prelude.{None, Some}
-use Rattle.dstm_cells.specs.Alternatives.{noting}
 use Rattle.dstm_structures.specs.Items.{Stands}
 use Rattle.dstm_structures.specs.Maps.{Seeks, end_of, key_of}
 use Rattle.dstm_structures.proofs.Doing.{Reads, does-as, does-read, does-then}
@@ -18,14 +17,10 @@ returns-in_default-clause-stands g c =
     c.key_at.ensures reads c.in_default.is)
 
 pub returns-in_err-place-clause-notes : goal.returns-in_err-place-clause-notes
-returns-in_err-place-clause-notes g c =
-    notes_twice g.L.Law.holds (noting c.args.tx.now) (noting c.get.new.self) (noting c.find.new.tx)
-    c.in_ok-held.ensures.notes c.in_err-place.ensures.notes
+returns-in_err-place-clause-notes g c = notes_twice c.in_ok-held.ensures.notes c.in_err-place.ensures.notes
 
 pub returns-then-is_at-clause-notes : goal.returns-then-is_at-clause-notes
-returns-then-is_at-clause-notes g c =
-    notes_twice g.L.Law.holds (noting c.args.tx.now) (noting c.get.new.self) (noting c.find.new.tx)
-    c.in_ok-held.ensures.notes c.in_ok-place.ensures.notes
+returns-then-is_at-clause-notes g c = notes_twice c.in_ok-held.ensures.notes c.in_ok-place.ensures.notes
 
 pub returns-then-is_at-clause-stands : goal.returns-then-is_at-clause-stands
 returns-then-is_at-clause-stands g c =
@@ -40,9 +35,7 @@ returns-then-is_at-clause-stands g c =
     (sym c.is_at.ensures ∙ c.if-is_at.true))
 
 pub returns-else-is_at-clause-notes : goal.returns-else-is_at-clause-notes
-returns-else-is_at-clause-notes g c =
-    notes_twice g.L.Law.holds (noting c.args.tx.now) (noting c.get.new.self) (noting c.find.new.tx)
-    c.in_ok-held.ensures.notes c.in_ok-place.ensures.notes
+returns-else-is_at-clause-notes g c = notes_twice c.in_ok-held.ensures.notes c.in_ok-place.ensures.notes
 
 pub returns-else-is_at-clause-stands : goal.returns-else-is_at-clause-stands
 returns-else-is_at-clause-stands g c =

@@ -1,5 +1,4 @@
 use Rattle.std.specs.Prelude.{Some}
-use Rattle.dstm_cells.specs.Alternatives.{noting}
 use Rattle.dstm_structures.specs.Maps.{Stores, end_of, key_of}
 use Rattle.dstm_structures.proofs.Doing.{Writes, does-write, then-write}
 use Rattle.dstm_structures.proofs.Mapping.{stores}
@@ -7,14 +6,10 @@ use Rattle.dstm_structures.proofs.Noting.{notes_twice}
 use Rattle.dstm_structures.proofs.map.HashMap.store.Goals as goal
 
 pub returns-in_err-set-2-clause-notes : goal.returns-in_err-set-2-clause-notes
-returns-in_err-set-2-clause-notes g c =
-    notes_twice g.L.Law.holds (noting c.args.tx.now) (noting c.set.new.self) (noting c.set-2.new.self)
-    c.in_ok-set.ensures.notes c.in_err-set-2.ensures.notes
+returns-in_err-set-2-clause-notes g c = notes_twice c.in_ok-set.ensures.notes c.in_err-set-2.ensures.notes
 
 pub returns-clause-notes : goal.returns-clause-notes
-returns-clause-notes g c =
-    notes_twice g.L.Law.holds (noting c.args.tx.now) (noting c.set.new.self) (noting c.set-2.new.self)
-    c.in_ok-set.ensures.notes c.in_ok-set-2.ensures.notes
+returns-clause-notes g c = notes_twice c.in_ok-set.ensures.notes c.in_ok-set-2.ensures.notes
 
 pub returns-clause-stores : goal.returns-clause-stores
 returns-clause-stores g c =

@@ -1,5 +1,4 @@
 use Rattle.std.proofs.Common.{◌∙◌, ℕ, ◌+◌, List, arith, refl, subst, sym}
-use Rattle.dstm_cells.specs.Alternatives.{noting}
 use Rattle.dstm_structures.specs.Items.{Lists, ListsPlace}
 use Rattle.dstm_structures.specs.Maps.{end_of}
 use Rattle.dstm_structures.proofs.Doing.{does-as, does-still, does-then}
@@ -10,7 +9,7 @@ use Rattle.dstm_structures.proofs.map.HashMap.to_vec.Goals as goal
 pub loop-at-init : goal.loop-at-init
 loop-at-init g c = (
   refl,
-  notes_still g.L.Law.holds (noting c.args.tx.now),
+  notes_still,
   does-still g.L.Law.holds (end_of c.args.self) (Listing g.V.Word.found c.args.self 0 c.new-items.result.items)
       c.args.tx.now.attempts.caller
       (λ values. subst (λ (xs : List (ℕ × g.row.V.Denot)). Listing g.V.Word.found c.args.self 0 xs values values)
@@ -21,15 +20,12 @@ pub returns-in_err-list_place-clause-keeps : goal.returns-in_err-list_place-clau
 returns-in_err-list_place-clause-keeps g c = c.in_err-list_place.ensures.keeps ∙ c.loop-at.invariant.0
 
 pub returns-in_err-list_place-clause-notes : goal.returns-in_err-list_place-clause-notes
-returns-in_err-list_place-clause-notes g c =
-    notes_twice g.L.Law.holds (noting c.args.tx.now) (noting c.loop-at.tx) (noting c.list_place.new.tx)
-    c.loop-at.invariant.1 c.in_err-list_place.ensures.notes
+returns-in_err-list_place-clause-notes g c = notes_twice c.loop-at.invariant.1 c.in_err-list_place.ensures.notes
 
 pub loop-at-preserved : goal.loop-at-preserved
 loop-at-preserved g c = (
   c.in_ok-list_place.ensures.keeps ∙ c.loop-at.invariant.0,
-  notes_twice g.L.Law.holds (noting c.args.tx.now) (noting c.loop-at.tx) (noting c.list_place.new.tx)
-      c.loop-at.invariant.1 c.in_ok-list_place.ensures.notes,
+  notes_twice c.loop-at.invariant.1 c.in_ok-list_place.ensures.notes,
   does-then g.L.Law.holds (end_of c.args.self) (Listing g.V.Word.found c.args.self c.loop-at.at c.loop-at.items.items)
       (ListsPlace g.V.Word.found c.args.self c.loop-at.at c.loop-at.items.items c.list_place.new.items.items)
       (Listing g.V.Word.found c.args.self (c.loop-at.at + 1) c.list_place.new.items.items) c.args.tx.now.attempts.caller

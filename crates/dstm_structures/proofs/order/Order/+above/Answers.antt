@@ -1,6 +1,5 @@
 use Rattle.std.proofs.Common.{◌∙◌, ℕ, ◌/◌, ◌^◌, arith, refl, subst, sym}
 use Rattle.std.specs.Prelude.{None, Option, Some, false}
-use Rattle.dstm_cells.specs.Alternatives.{noting}
 use Rattle.dstm_structures.specs.Effects.{Does}
 use Rattle.dstm_structures.specs.Maps.{key_of}
 use Rattle.dstm_structures.specs.Orders.{Ends, Follows, IsNext, order_end}
@@ -51,13 +50,11 @@ returns-then-fork-under-clause-follows g t c =
 
 pub returns-in_err-first-in-Fork-clause-notes : goal.returns-in_err-first-in-Fork-clause-notes
 returns-in_err-first-in-Fork-clause-notes g t c =
-    notes_twice g.L.Law.holds (noting c.args.tx.now) (noting c.look_fork.new.tx) (noting c.edge.new.tx)
-    c.in_ok-fork-in-Fork.ensures.notes c.in_err-first-in-Fork.ensures.notes
+    notes_twice c.in_ok-fork-in-Fork.ensures.notes c.in_err-first-in-Fork.ensures.notes
 
 pub returns-then-part-fork-clause-notes : goal.returns-then-part-fork-clause-notes
 returns-then-part-fork-clause-notes g t c =
-    notes_twice g.L.Law.holds (noting c.args.tx.now) (noting c.look_fork.new.tx) (noting c.edge.new.tx)
-    c.in_ok-fork-in-Fork.ensures.notes c.in_ok-first-in-Fork.ensures.notes
+    notes_twice c.in_ok-fork-in-Fork.ensures.notes c.in_ok-first-in-Fork.ensures.notes
 
 pub returns-then-part-fork-clause-follows : goal.returns-then-part-fork-clause-follows
 returns-then-part-fork-clause-follows g t c =
@@ -87,13 +84,11 @@ above-requires g t c κs within =
 
 pub returns-in_err-right-in-Fork-clause-notes : goal.returns-in_err-right-in-Fork-clause-notes
 returns-in_err-right-in-Fork-clause-notes g t c =
-    notes_twice g.L.Law.holds (noting c.args.tx.now) (noting c.look_fork.new.tx) (noting c.above.new.tx)
-    c.in_ok-fork-in-Fork.ensures.notes c.in_err-right-in-Fork.ensures.notes
+    notes_twice c.in_ok-fork-in-Fork.ensures.notes c.in_err-right-in-Fork.ensures.notes
 
 pub returns-then-part-eq1-clause-notes : goal.returns-then-part-eq1-clause-notes
 returns-then-part-eq1-clause-notes g t c =
-    notes_twice g.L.Law.holds (noting c.args.tx.now) (noting c.look_fork.new.tx) (noting c.above.new.tx)
-    c.in_ok-fork-in-Fork.ensures.notes c.in_ok-right-in-Fork.ensures.notes
+    notes_twice c.in_ok-fork-in-Fork.ensures.notes c.in_ok-right-in-Fork.ensures.notes
 
 pub returns-then-part-eq1-clause-follows : goal.returns-then-part-eq1-clause-follows
 returns-then-part-eq1-clause-follows g t c =
@@ -114,13 +109,10 @@ above-requires-in-Fork g t c κs within =
 
 pub returns-in_err-left-in-Fork-clause-notes : goal.returns-in_err-left-in-Fork-clause-notes
 returns-in_err-left-in-Fork-clause-notes g t c =
-    notes_twice g.L.Law.holds (noting c.args.tx.now) (noting c.look_fork.new.tx) (noting c.above-in-Fork.new.tx)
-    c.in_ok-fork-in-Fork.ensures.notes c.in_err-left-in-Fork.ensures.notes
+    notes_twice c.in_ok-fork-in-Fork.ensures.notes c.in_err-left-in-Fork.ensures.notes
 
 pub returns-in-Some-clause-notes : goal.returns-in-Some-clause-notes
-returns-in-Some-clause-notes g t c =
-    notes_twice g.L.Law.holds (noting c.args.tx.now) (noting c.look_fork.new.tx) (noting c.above-in-Fork.new.tx)
-    c.in_ok-fork-in-Fork.ensures.notes c.in_ok-left-in-Fork.ensures.notes
+returns-in-Some-clause-notes g t c = notes_twice c.in_ok-fork-in-Fork.ensures.notes c.in_ok-left-in-Fork.ensures.notes
 
 pub returns-in-Some-clause-follows : goal.returns-in-Some-clause-follows
 returns-in-Some-clause-follows g t c =
@@ -140,13 +132,11 @@ returns-in-Some-clause-follows g t c =
 
 pub returns-in_err-later-in-Fork-clause-notes : goal.returns-in_err-later-in-Fork-clause-notes
 returns-in_err-later-in-Fork-clause-notes g t c =
-    notes_thrice g.L.Law.holds (noting c.args.tx.now) (noting c.look_fork.new.tx) (noting c.above-in-Fork.new.tx)
-    (noting c.edge-in-Fork.new.tx) c.in_ok-fork-in-Fork.ensures.notes c.in_ok-left-in-Fork.ensures.notes c.in_err-later-in-Fork.ensures.notes
+    notes_thrice c.in_ok-fork-in-Fork.ensures.notes c.in_ok-left-in-Fork.ensures.notes c.in_err-later-in-Fork.ensures.notes
 
 pub returns-in_ok-later-in-Fork-clause-notes : goal.returns-in_ok-later-in-Fork-clause-notes
 returns-in_ok-later-in-Fork-clause-notes g t c =
-    notes_thrice g.L.Law.holds (noting c.args.tx.now) (noting c.look_fork.new.tx) (noting c.above-in-Fork.new.tx)
-    (noting c.edge-in-Fork.new.tx) c.in_ok-fork-in-Fork.ensures.notes c.in_ok-left-in-Fork.ensures.notes c.in_ok-later-in-Fork.ensures.notes
+    notes_thrice c.in_ok-fork-in-Fork.ensures.notes c.in_ok-left-in-Fork.ensures.notes c.in_ok-later-in-Fork.ensures.notes
 
 pub returns-in_ok-later-in-Fork-clause-follows : goal.returns-in_ok-later-in-Fork-clause-follows
 returns-in_ok-later-in-Fork-clause-follows g t c =

@@ -1,5 +1,4 @@
 use Rattle.std.proofs.Common.{ℕ, ◌+◌, ◌*◌, ◌/◌, ◌%◌, ◌^◌, ◌==◌, arith, refl, subst, sym}
-use Rattle.dstm_cells.specs.Alternatives.{noting}
 use Rattle.dstm_structures.specs.Effects.{Does}
 use Rattle.dstm_structures.specs.Orders.{order_end}
 use Rattle.dstm_structures.specs.Tips.{AddsBeside, AddsOver, AddsTip, LooksFork, SetsSide}
@@ -9,7 +8,7 @@ use Rattle.dstm_structures.proofs.Tipping.{adds_over, adds_side, adds_tip}
 use Rattle.dstm_structures.proofs.order.Order.+add_below.Goals as goal
 
 pub returns-in-Nothing-clause-notes : goal.returns-in-Nothing-clause-notes
-returns-in-Nothing-clause-notes g t c = notes_still g.L.Law.holds (noting c.args.tx.now)
+returns-in-Nothing-clause-notes g t c = notes_still
 
 pub returns-in_ok-now-in-Tip-clause-adds : goal.returns-in_ok-now-in-Tip-clause-adds
 returns-in_ok-now-in-Tip-clause-adds g t c =
@@ -24,13 +23,11 @@ returns-in_ok-now-in-Tip-clause-adds g t c =
 
 pub returns-in_err-now-in-Fork-clause-notes : goal.returns-in_err-now-in-Fork-clause-notes
 returns-in_err-now-in-Fork-clause-notes g t c =
-    notes_twice g.L.Law.holds (noting c.args.tx.now) (noting c.look_fork.new.tx) (noting c.add_over.new.tx)
-    c.in_ok-fork-in-Fork.ensures.notes c.in_err-now-in-Fork.ensures.notes
+    notes_twice c.in_ok-fork-in-Fork.ensures.notes c.in_err-now-in-Fork.ensures.notes
 
 pub returns-then-part-fork-clause-notes : goal.returns-then-part-fork-clause-notes
 returns-then-part-fork-clause-notes g t c =
-    notes_twice g.L.Law.holds (noting c.args.tx.now) (noting c.look_fork.new.tx) (noting c.add_over.new.tx)
-    c.in_ok-fork-in-Fork.ensures.notes c.in_ok-now-in-Fork.ensures.notes
+    notes_twice c.in_ok-fork-in-Fork.ensures.notes c.in_ok-now-in-Fork.ensures.notes
 
 pub returns-then-part-fork-clause-adds : goal.returns-then-part-fork-clause-adds
 returns-then-part-fork-clause-adds g t c =
@@ -47,20 +44,15 @@ returns-then-part-fork-clause-adds g t c =
 
 pub returns-in_err-now-in-Fork-2-clause-notes : goal.returns-in_err-now-in-Fork-2-clause-notes
 returns-in_err-now-in-Fork-2-clause-notes g t c =
-    notes_twice g.L.Law.holds (noting c.args.tx.now) (noting c.look_fork.new.tx) (noting c.add_below.new.tx)
-    c.in_ok-fork-in-Fork.ensures.notes c.in_err-now-in-Fork-2.ensures.notes
+    notes_twice c.in_ok-fork-in-Fork.ensures.notes c.in_err-now-in-Fork-2.ensures.notes
 
 pub returns-in_err-set_side-in-Fork-clause-notes : goal.returns-in_err-set_side-in-Fork-clause-notes
 returns-in_err-set_side-in-Fork-clause-notes g t c =
-    notes_thrice g.L.Law.holds (noting c.args.tx.now) (noting c.look_fork.new.tx) (noting c.add_below.new.tx)
-    (noting c.set_side.new.tx) c.in_ok-fork-in-Fork.ensures.notes c.in_ok-now-in-Fork-2.ensures.notes
-    c.in_err-set_side-in-Fork.ensures.notes
+    notes_thrice c.in_ok-fork-in-Fork.ensures.notes c.in_ok-now-in-Fork-2.ensures.notes c.in_err-set_side-in-Fork.ensures.notes
 
 pub returns-in_ok-set_side-in-Fork-clause-notes : goal.returns-in_ok-set_side-in-Fork-clause-notes
 returns-in_ok-set_side-in-Fork-clause-notes g t c =
-    notes_thrice g.L.Law.holds (noting c.args.tx.now) (noting c.look_fork.new.tx) (noting c.add_below.new.tx)
-    (noting c.set_side.new.tx) c.in_ok-fork-in-Fork.ensures.notes c.in_ok-now-in-Fork-2.ensures.notes
-    c.in_ok-set_side-in-Fork.ensures.notes
+    notes_thrice c.in_ok-fork-in-Fork.ensures.notes c.in_ok-now-in-Fork-2.ensures.notes c.in_ok-set_side-in-Fork.ensures.notes
 
 pub returns-in_ok-set_side-in-Fork-clause-adds : goal.returns-in_ok-set_side-in-Fork-clause-adds
 returns-in_ok-set_side-in-Fork-clause-adds g t c =

@@ -1,5 +1,4 @@
 use Rattle.std.proofs.Common.{◌∙◌, ℕ, ◌+◌, ◌*◌, ◌/◌, ◌%◌, ◌^◌, ◌==◌, cond, refl, subst, sym}
-use Rattle.dstm_cells.specs.Alternatives.{noting}
 use Rattle.dstm_structures.specs.Effects.{Does}
 use Rattle.dstm_structures.specs.Orders.{order_end}
 use Rattle.dstm_structures.specs.Tips.{DropsTip, FreesFork, LooksFork, SetsSide}
@@ -9,10 +8,10 @@ use Rattle.dstm_structures.proofs.Noting.{notes_still, notes_thrice, notes_twice
 use Rattle.dstm_structures.proofs.order.Order.+drop_below.Goals as goal
 
 pub returns-in-Nothing-clause-notes : goal.returns-in-Nothing-clause-notes
-returns-in-Nothing-clause-notes g t c = notes_still g.L.Law.holds (noting c.args.tx.now)
+returns-in-Nothing-clause-notes g t c = notes_still
 
 pub returns-else-place-at-clause-notes : goal.returns-else-place-at-clause-notes
-returns-else-place-at-clause-notes g t c = notes_still g.L.Law.holds (noting c.args.tx.now)
+returns-else-place-at-clause-notes g t c = notes_still
 
 pub returns-then-part-fork-clause-drops : goal.returns-then-part-fork-clause-drops
 returns-then-part-fork-clause-drops g t c =
@@ -26,20 +25,15 @@ returns-then-part-fork-clause-drops g t c =
 
 pub returns-in_err-now-in-Fork-clause-notes : goal.returns-in_err-now-in-Fork-clause-notes
 returns-in_err-now-in-Fork-clause-notes g t c =
-    notes_twice g.L.Law.holds (noting c.args.tx.now) (noting c.look_fork.new.tx) (noting c.drop_below.new.tx)
-    c.in_ok-fork-in-Fork.ensures.notes c.in_err-now-in-Fork.ensures.notes
+    notes_twice c.in_ok-fork-in-Fork.ensures.notes c.in_err-now-in-Fork.ensures.notes
 
 pub returns-in_err-clear_fork-in-Fork-clause-notes : goal.returns-in_err-clear_fork-in-Fork-clause-notes
 returns-in_err-clear_fork-in-Fork-clause-notes g t c =
-    notes_thrice g.L.Law.holds (noting c.args.tx.now) (noting c.look_fork.new.tx) (noting c.drop_below.new.tx)
-    (noting c.clear_fork.new.tx) c.in_ok-fork-in-Fork.ensures.notes c.in_ok-now-in-Fork.ensures.notes
-    c.in_err-clear_fork-in-Fork.ensures.notes
+    notes_thrice c.in_ok-fork-in-Fork.ensures.notes c.in_ok-now-in-Fork.ensures.notes c.in_err-clear_fork-in-Fork.ensures.notes
 
 pub returns-then-now-eq0-clause-notes : goal.returns-then-now-eq0-clause-notes
 returns-then-now-eq0-clause-notes g t c =
-    notes_thrice g.L.Law.holds (noting c.args.tx.now) (noting c.look_fork.new.tx) (noting c.drop_below.new.tx)
-    (noting c.clear_fork.new.tx) c.in_ok-fork-in-Fork.ensures.notes c.in_ok-now-in-Fork.ensures.notes
-    c.in_ok-clear_fork-in-Fork.ensures.notes
+    notes_thrice c.in_ok-fork-in-Fork.ensures.notes c.in_ok-now-in-Fork.ensures.notes c.in_ok-clear_fork-in-Fork.ensures.notes
 
 pub returns-then-now-eq0-clause-drops : goal.returns-then-now-eq0-clause-drops
 returns-then-now-eq0-clause-drops g t c =
@@ -64,15 +58,11 @@ returns-then-now-eq0-clause-drops g t c =
 
 pub returns-in_err-set_side-in-Fork-clause-notes : goal.returns-in_err-set_side-in-Fork-clause-notes
 returns-in_err-set_side-in-Fork-clause-notes g t c =
-    notes_thrice g.L.Law.holds (noting c.args.tx.now) (noting c.look_fork.new.tx) (noting c.drop_below.new.tx)
-    (noting c.set_side.new.tx) c.in_ok-fork-in-Fork.ensures.notes c.in_ok-now-in-Fork.ensures.notes
-    c.in_err-set_side-in-Fork.ensures.notes
+    notes_thrice c.in_ok-fork-in-Fork.ensures.notes c.in_ok-now-in-Fork.ensures.notes c.in_err-set_side-in-Fork.ensures.notes
 
 pub returns-in_ok-set_side-in-Fork-clause-notes : goal.returns-in_ok-set_side-in-Fork-clause-notes
 returns-in_ok-set_side-in-Fork-clause-notes g t c =
-    notes_thrice g.L.Law.holds (noting c.args.tx.now) (noting c.look_fork.new.tx) (noting c.drop_below.new.tx)
-    (noting c.set_side.new.tx) c.in_ok-fork-in-Fork.ensures.notes c.in_ok-now-in-Fork.ensures.notes
-    c.in_ok-set_side-in-Fork.ensures.notes
+    notes_thrice c.in_ok-fork-in-Fork.ensures.notes c.in_ok-now-in-Fork.ensures.notes c.in_ok-set_side-in-Fork.ensures.notes
 
 pub returns-in_ok-set_side-in-Fork-clause-drops : goal.returns-in_ok-set_side-in-Fork-clause-drops
 returns-in_ok-set_side-in-Fork-clause-drops g t c =

@@ -1,6 +1,5 @@
 use Rattle.std.proofs.Common.{◌∙◌, arith, sym}
 use Rattle.std.specs.Prelude.{None, Some}
-use Rattle.dstm_cells.specs.Alternatives.{noting}
 use Rattle.dstm_structures.specs.Orders.{Ends, IsEdge, order_end}
 use Rattle.dstm_structures.specs.Tips.{LooksFork}
 use Rattle.dstm_structures.proofs.Doing.{does-as, does-still, does-then}
@@ -38,13 +37,11 @@ edge-requires g t c κs within =
 
 pub returns-in_err-place-in-Fork-clause-notes : goal.returns-in_err-place-in-Fork-clause-notes
 returns-in_err-place-in-Fork-clause-notes g t c =
-    notes_twice g.L.Law.holds (noting c.args.tx.now) (noting c.look_fork.new.tx) (noting c.edge.new.tx)
-    c.in_ok-fork-in-Fork.ensures.notes c.in_err-place-in-Fork.ensures.notes
+    notes_twice c.in_ok-fork-in-Fork.ensures.notes c.in_err-place-in-Fork.ensures.notes
 
 pub returns-in_ok-place-in-Fork-clause-notes : goal.returns-in_ok-place-in-Fork-clause-notes
 returns-in_ok-place-in-Fork-clause-notes g t c =
-    notes_twice g.L.Law.holds (noting c.args.tx.now) (noting c.look_fork.new.tx) (noting c.edge.new.tx)
-    c.in_ok-fork-in-Fork.ensures.notes c.in_ok-place-in-Fork.ensures.notes
+    notes_twice c.in_ok-fork-in-Fork.ensures.notes c.in_ok-place-in-Fork.ensures.notes
 
 pub returns-in_ok-place-in-Fork-clause-ends : goal.returns-in_ok-place-in-Fork-clause-ends
 returns-in_ok-place-in-Fork-clause-ends g t c =

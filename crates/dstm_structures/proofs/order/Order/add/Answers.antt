@@ -1,6 +1,5 @@
 use Rattle.std.proofs.Common.{List, arith, subst}
 use Rattle.dstm_model.specs.declared.value.Val.{Val}
-use Rattle.dstm_cells.specs.Alternatives.{noting}
 use Rattle.dstm_structures.specs.Orders.{low_of, order_end}
 use Rattle.dstm_structures.specs.Tips.{AddsKey, AddsTip, SetsRoot}
 use Rattle.dstm_structures.proofs.Doing.{Reads, does-read, does-thrice}
@@ -10,19 +9,15 @@ use Rattle.dstm_structures.proofs.Powers.{none_above}
 use Rattle.dstm_structures.proofs.order.Order.add.Goals as goal
 
 pub returns-in_err-now-clause-notes : goal.returns-in_err-now-clause-notes
-returns-in_err-now-clause-notes g c =
-    notes_twice g.L.Law.holds (noting c.args.tx.now) (noting c.get.new.self) (noting c.add_below.new.tx)
-    c.in_ok-root.ensures.notes c.in_err-now.ensures.notes
+returns-in_err-now-clause-notes g c = notes_twice c.in_ok-root.ensures.notes c.in_err-now.ensures.notes
 
 pub returns-in_err-set_root-clause-notes : goal.returns-in_err-set_root-clause-notes
 returns-in_err-set_root-clause-notes g c =
-    notes_thrice g.L.Law.holds (noting c.args.tx.now) (noting c.get.new.self) (noting c.add_below.new.tx)
-    (noting c.set_root.new.tx) c.in_ok-root.ensures.notes c.in_ok-now.ensures.notes c.in_err-set_root.ensures.notes
+    notes_thrice c.in_ok-root.ensures.notes c.in_ok-now.ensures.notes c.in_err-set_root.ensures.notes
 
 pub returns-clause-notes : goal.returns-clause-notes
 returns-clause-notes g c =
-    notes_thrice g.L.Law.holds (noting c.args.tx.now) (noting c.get.new.self) (noting c.add_below.new.tx)
-    (noting c.set_root.new.tx) c.in_ok-root.ensures.notes c.in_ok-now.ensures.notes c.in_ok-set_root.ensures.notes
+    notes_thrice c.in_ok-root.ensures.notes c.in_ok-now.ensures.notes c.in_ok-set_root.ensures.notes
 
 pub returns-clause-adds : goal.returns-clause-adds
 returns-clause-adds g c =

@@ -1,6 +1,5 @@
 use Rattle.std.proofs.Common.{◌∙◌, ℕ, ◌+◌, ◌*◌, ◌/◌, ◌^◌, refl, subst, sym}
 use Rattle.std.specs.Prelude.{Option}
-use Rattle.dstm_cells.specs.Alternatives.{noting}
 use Rattle.dstm_structures.specs.Effects.{Does}
 use Rattle.dstm_structures.specs.Maps.{key_of}
 use Rattle.dstm_structures.specs.Orders.{order_end}
@@ -27,14 +26,10 @@ returns-then-other-added-clause-adds g c =
     (λ k e. some_is k c.in-Some.other (sym e ∙ c.in-Some.is) ∙ c.if-other-added.true) reads))
 
 pub returns-in_err-set_fork-clause-notes : goal.returns-in_err-set_fork-clause-notes
-returns-in_err-set_fork-clause-notes g c =
-    notes_twice g.L.Law.holds (noting c.args.tx.now) (noting c.get.new.self) (noting c.set_fork.new.tx)
-    c.in_ok-held.ensures.notes c.in_err-set_fork.ensures.notes
+returns-in_err-set_fork-clause-notes g c = notes_twice c.in_ok-held.ensures.notes c.in_err-set_fork.ensures.notes
 
 pub returns-clause-notes : goal.returns-clause-notes
-returns-clause-notes g c =
-    notes_twice g.L.Law.holds (noting c.args.tx.now) (noting c.get.new.self) (noting c.set_fork.new.tx)
-    c.in_ok-held.ensures.notes c.in_ok-set_fork.ensures.notes
+returns-clause-notes g c = notes_twice c.in_ok-held.ensures.notes c.in_ok-set_fork.ensures.notes
 
 pub returns-clause-adds : goal.returns-clause-adds
 returns-clause-adds g c =

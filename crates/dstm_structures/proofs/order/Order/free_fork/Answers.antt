@@ -1,6 +1,5 @@
 use Rattle.std.proofs.Common.{◌∙◌, ◌+◌, arith, refl}
 use Rattle.std.specs.Prelude.{None, Some}
-use Rattle.dstm_cells.specs.Alternatives.{noting}
 use Rattle.dstm_structures.specs.Orders.{order_end, words_of}
 use Rattle.dstm_structures.specs.Tips.{SeeksFork}
 use Rattle.dstm_structures.proofs.Doing.{does-as, does-still, then-read}
@@ -11,7 +10,7 @@ use Rattle.dstm_structures.proofs.order.Order.free_fork.Goals as goal
 pub loop-passed-init : goal.loop-passed-init
 loop-passed-init g c = (
   refl,
-  notes_still g.L.Law.holds (noting c.args.tx.now),
+  notes_still,
   does-still g.L.Law.holds (order_end c.args.self.cells) (PassingForks c.args.self.cells c.args.home 0) c.args.tx.now.attempts.caller
       (λ values. forks_start c.args.self.cells c.args.home values),
 )
@@ -20,17 +19,13 @@ pub returns-in_err-held-clause-keeps : goal.returns-in_err-held-clause-keeps
 returns-in_err-held-clause-keeps g c = c.in_err-held.ensures.keeps ∙ c.loop-passed.invariant.0
 
 pub returns-in_err-held-clause-notes : goal.returns-in_err-held-clause-notes
-returns-in_err-held-clause-notes g c =
-    notes_twice g.L.Law.holds (noting c.args.tx.now) (noting c.loop-passed.tx) (noting c.get.new.self)
-    c.loop-passed.invariant.1 c.in_err-held.ensures.notes
+returns-in_err-held-clause-notes g c = notes_twice c.loop-passed.invariant.1 c.in_err-held.ensures.notes
 
 pub returns-then-held-eq0-clause-keeps : goal.returns-then-held-eq0-clause-keeps
 returns-then-held-eq0-clause-keeps g c = c.in_ok-held.ensures.keeps ∙ c.loop-passed.invariant.0
 
 pub returns-then-held-eq0-clause-notes : goal.returns-then-held-eq0-clause-notes
-returns-then-held-eq0-clause-notes g c =
-    notes_twice g.L.Law.holds (noting c.args.tx.now) (noting c.loop-passed.tx) (noting c.get.new.self)
-    c.loop-passed.invariant.1 c.in_ok-held.ensures.notes
+returns-then-held-eq0-clause-notes g c = notes_twice c.loop-passed.invariant.1 c.in_ok-held.ensures.notes
 
 pub returns-then-held-eq0-clause-seeks : goal.returns-then-held-eq0-clause-seeks
 returns-then-held-eq0-clause-seeks g c =
@@ -45,8 +40,7 @@ returns-then-held-eq0-clause-seeks g c =
 pub loop-passed-preserved : goal.loop-passed-preserved
 loop-passed-preserved g c = (
   c.in_ok-held.ensures.keeps ∙ c.loop-passed.invariant.0,
-  notes_twice g.L.Law.holds (noting c.args.tx.now) (noting c.loop-passed.tx) (noting c.get.new.self)
-      c.loop-passed.invariant.1 c.in_ok-held.ensures.notes,
+  notes_twice c.loop-passed.invariant.1 c.in_ok-held.ensures.notes,
   then-read g.L.Law.holds (order_end c.args.self.cells) (PassingForks c.args.self.cells c.args.home c.loop-passed.passed)
       (PassingForks c.args.self.cells c.args.home (c.loop-passed.passed + 1)) words_of c.args.tx.now.attempts.caller
       c.loop-passed.tx.attempts.caller c.get.new.self.attempts.caller c.fork_at.result.object c.in_ok-held.held

@@ -1,4 +1,3 @@
-use Rattle.dstm_cells.specs.Alternatives.{noting}
 use Rattle.dstm_structures.specs.Orders.{Follows, FollowsAll, IsNext, low_of, order_end}
 use Rattle.dstm_structures.proofs.Doing.{Reads, does-read, does-then}
 use Rattle.dstm_structures.proofs.Noting.{notes_twice}
@@ -6,14 +5,10 @@ use Rattle.dstm_structures.proofs.Ordering.{finds-all}
 use Rattle.dstm_structures.proofs.order.Order.next.Goals as goal
 
 pub returns-in_err-place-clause-notes : goal.returns-in_err-place-clause-notes
-returns-in_err-place-clause-notes g c =
-    notes_twice g.L.Law.holds (noting c.args.tx.now) (noting c.get.new.self) (noting c.above.new.tx)
-    c.in_ok-root.ensures.notes c.in_err-place.ensures.notes
+returns-in_err-place-clause-notes g c = notes_twice c.in_ok-root.ensures.notes c.in_err-place.ensures.notes
 
 pub returns-clause-notes : goal.returns-clause-notes
-returns-clause-notes g c =
-    notes_twice g.L.Law.holds (noting c.args.tx.now) (noting c.get.new.self) (noting c.above.new.tx)
-    c.in_ok-root.ensures.notes c.in_ok-place.ensures.notes
+returns-clause-notes g c = notes_twice c.in_ok-root.ensures.notes c.in_ok-place.ensures.notes
 
 pub returns-clause-follows : goal.returns-clause-follows
 returns-clause-follows g c =

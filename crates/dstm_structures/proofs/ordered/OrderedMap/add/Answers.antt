@@ -1,6 +1,5 @@
 use Rattle.std.proofs.Common.{ℕ, arith, subst}
 use Rattle.std.specs.Prelude.{None, Option, Some}
-use Rattle.dstm_cells.specs.Alternatives.{noting}
 use Rattle.dstm_structures.specs.Effects.{Does}
 use Rattle.dstm_structures.specs.Maps.{Inserts, end_of}
 use Rattle.dstm_structures.specs.Ordered.{Adding}
@@ -22,14 +21,10 @@ returns-in_default-clause-adds g c =
     (λ before after size. adds-none g.V.Word.found c.args.self c.args.key c.args.value before after)
 
 pub returns-in_err-placed-clause-notes : goal.returns-in_err-placed-clause-notes
-returns-in_err-placed-clause-notes g c =
-    notes_twice g.L.Law.holds (noting c.args.tx.now) (noting c.free_fork.new.tx) (noting c.insert.new.tx)
-    c.in_ok-free.ensures.notes c.in_err-placed.ensures.notes
+returns-in_err-placed-clause-notes g c = notes_twice c.in_ok-free.ensures.notes c.in_err-placed.ensures.notes
 
 pub returns-in_default-placed-clause-notes : goal.returns-in_default-placed-clause-notes
-returns-in_default-placed-clause-notes g c =
-    notes_twice g.L.Law.holds (noting c.args.tx.now) (noting c.free_fork.new.tx) (noting c.insert.new.tx)
-    c.in_ok-free.ensures.notes c.in_ok-placed.ensures.notes
+returns-in_default-placed-clause-notes g c = notes_twice c.in_ok-free.ensures.notes c.in_ok-placed.ensures.notes
 
 pub returns-in_default-placed-clause-adds : goal.returns-in_default-placed-clause-adds
 returns-in_default-placed-clause-adds g c =
@@ -49,13 +44,11 @@ returns-in_default-placed-clause-adds g c =
 
 pub returns-in_err-add-clause-notes : goal.returns-in_err-add-clause-notes
 returns-in_err-add-clause-notes g c =
-    notes_thrice g.L.Law.holds (noting c.args.tx.now) (noting c.free_fork.new.tx) (noting c.insert.new.tx)
-    (noting c.add.new.tx) c.in_ok-free.ensures.notes c.in_ok-placed.ensures.notes c.in_err-add.ensures.notes
+    notes_thrice c.in_ok-free.ensures.notes c.in_ok-placed.ensures.notes c.in_err-add.ensures.notes
 
 pub returns-clause-notes : goal.returns-clause-notes
 returns-clause-notes g c =
-    notes_thrice g.L.Law.holds (noting c.args.tx.now) (noting c.free_fork.new.tx) (noting c.insert.new.tx)
-    (noting c.add.new.tx) c.in_ok-free.ensures.notes c.in_ok-placed.ensures.notes c.in_ok-add.ensures.notes
+    notes_thrice c.in_ok-free.ensures.notes c.in_ok-placed.ensures.notes c.in_ok-add.ensures.notes
 
 pub returns-clause-adds : goal.returns-clause-adds
 returns-clause-adds g c =

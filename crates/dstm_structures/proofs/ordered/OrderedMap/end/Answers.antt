@@ -1,4 +1,3 @@
-use Rattle.dstm_cells.specs.Alternatives.{noting}
 use Rattle.dstm_structures.specs.Ordered.{Looks, TellsEnd}
 use Rattle.dstm_structures.specs.Orders.{EndsAll, order_end}
 use Rattle.dstm_structures.proofs.Doing.{does-then}
@@ -7,14 +6,10 @@ use Rattle.dstm_structures.proofs.InOrder.{tells-end}
 use Rattle.dstm_structures.proofs.ordered.OrderedMap.end.Goals as goal
 
 pub returns-in_err-entry-clause-notes : goal.returns-in_err-entry-clause-notes
-returns-in_err-entry-clause-notes g c =
-    notes_twice g.L.Law.holds (noting c.args.tx.now) (noting c.end.new.tx) (noting c.entry.new.tx)
-    c.in_ok-place.ensures.notes c.in_err-entry.ensures.notes
+returns-in_err-entry-clause-notes g c = notes_twice c.in_ok-place.ensures.notes c.in_err-entry.ensures.notes
 
 pub returns-clause-notes : goal.returns-clause-notes
-returns-clause-notes g c =
-    notes_twice g.L.Law.holds (noting c.args.tx.now) (noting c.end.new.tx) (noting c.entry.new.tx)
-    c.in_ok-place.ensures.notes c.in_ok-entry.ensures.notes
+returns-clause-notes g c = notes_twice c.in_ok-place.ensures.notes c.in_ok-entry.ensures.notes
 
 pub returns-clause-tells : goal.returns-clause-tells
 returns-clause-tells g c =

@@ -1,5 +1,4 @@
 use Rattle.std.specs.Prelude.{None, Some}
-use Rattle.dstm_cells.specs.Alternatives.{noting}
 use Rattle.dstm_structures.specs.Maps.{key_of}
 use Rattle.dstm_structures.specs.Ordered.{Looks}
 use Rattle.dstm_structures.specs.Orders.{order_end}
@@ -9,7 +8,7 @@ use Rattle.dstm_structures.proofs.Placing.{looks-keyless, looks-nowhere, looks-t
 use Rattle.dstm_structures.proofs.ordered.OrderedMap.entry.Goals as goal
 
 pub returns-in_default-clause-notes : goal.returns-in_default-clause-notes
-returns-in_default-clause-notes g c = notes_still g.L.Law.holds (noting c.args.tx.now)
+returns-in_default-clause-notes g c = notes_still
 
 pub returns-in_default-clause-looks : goal.returns-in_default-clause-looks
 returns-in_default-clause-looks g c =
@@ -27,14 +26,10 @@ returns-in_default-held-clause-looks g c =
     c.in_ok-held.held before after c.in-Some.is c.key_at.ensures c.in_default-held.is)
 
 pub returns-in_err-value-clause-notes : goal.returns-in_err-value-clause-notes
-returns-in_err-value-clause-notes g c =
-    notes_twice g.L.Law.holds (noting c.args.tx.now) (noting c.get.new.self) (noting c.get-2.new.self)
-    c.in_ok-held.ensures.notes c.in_err-value.ensures.notes
+returns-in_err-value-clause-notes g c = notes_twice c.in_ok-held.ensures.notes c.in_err-value.ensures.notes
 
 pub returns-clause-notes : goal.returns-clause-notes
-returns-clause-notes g c =
-    notes_twice g.L.Law.holds (noting c.args.tx.now) (noting c.get.new.self) (noting c.get-2.new.self)
-    c.in_ok-held.ensures.notes c.in_ok-value.ensures.notes
+returns-clause-notes g c = notes_twice c.in_ok-held.ensures.notes c.in_ok-value.ensures.notes
 
 pub returns-clause-looks : goal.returns-clause-looks
 returns-clause-looks g c =

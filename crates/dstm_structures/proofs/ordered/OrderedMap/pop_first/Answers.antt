@@ -1,6 +1,5 @@
 use Rattle.std.proofs.Common.{ℕ, subst}
 use Rattle.std.specs.Prelude.{Option, Some}
-use Rattle.dstm_cells.specs.Alternatives.{noting}
 use Rattle.dstm_structures.specs.Effects.{Does}
 use Rattle.dstm_structures.specs.Ordered.{Pops, Removes, TellsFirst}
 use Rattle.dstm_structures.specs.Orders.{order_end}
@@ -16,14 +15,10 @@ returns-in_default-clause-pops g c =
     c.in_default.is c.in_ok-first.ensures.tells
 
 pub returns-in_err-_removed-clause-notes : goal.returns-in_err-_removed-clause-notes
-returns-in_err-_removed-clause-notes g c =
-    notes_twice g.L.Law.holds (noting c.args.tx.now) (noting c.first.new.tx) (noting c.remove.new.tx)
-    c.in_ok-first.ensures.notes c.in_err-_removed.ensures.notes
+returns-in_err-_removed-clause-notes g c = notes_twice c.in_ok-first.ensures.notes c.in_err-_removed.ensures.notes
 
 pub returns-clause-notes : goal.returns-clause-notes
-returns-clause-notes g c =
-    notes_twice g.L.Law.holds (noting c.args.tx.now) (noting c.first.new.tx) (noting c.remove.new.tx)
-    c.in_ok-first.ensures.notes c.in_ok-_removed.ensures.notes
+returns-clause-notes g c = notes_twice c.in_ok-first.ensures.notes c.in_ok-_removed.ensures.notes
 
 pub returns-clause-pops : goal.returns-clause-pops
 returns-clause-pops g c =

@@ -1,6 +1,5 @@
 use Rattle.std.proofs.Common.{ℕ, ◌<◌, arith, subst}
 use Rattle.std.specs.Prelude.{IfSome, None, Option, Some}
-use Rattle.dstm_cells.specs.Alternatives.{noting}
 use Rattle.dstm_structures.specs.Effects.{Does}
 use Rattle.dstm_structures.specs.Maps.{Seeks, end_of}
 use Rattle.dstm_structures.specs.Ordered.{Adding, Puts}
@@ -12,14 +11,10 @@ use Rattle.dstm_structures.proofs.Placing.{puts-absent, puts-instead}
 use Rattle.dstm_structures.proofs.ordered.OrderedMap.put.Goals as goal
 
 pub returns-in_err-placed-clause-notes : goal.returns-in_err-placed-clause-notes
-returns-in_err-placed-clause-notes g c =
-    notes_twice g.L.Law.holds (noting c.args.tx.now) (noting c.find.new.tx) (noting c.add.new.tx)
-    c.in_ok-found.ensures.notes c.in_err-placed.ensures.notes
+returns-in_err-placed-clause-notes g c = notes_twice c.in_ok-found.ensures.notes c.in_err-placed.ensures.notes
 
 pub returns-in_default-clause-notes : goal.returns-in_default-clause-notes
-returns-in_default-clause-notes g c =
-    notes_twice g.L.Law.holds (noting c.args.tx.now) (noting c.find.new.tx) (noting c.add.new.tx)
-    c.in_ok-found.ensures.notes c.in_ok-placed.ensures.notes
+returns-in_default-clause-notes g c = notes_twice c.in_ok-found.ensures.notes c.in_ok-placed.ensures.notes
 
 pub returns-in_default-clause-puts : goal.returns-in_default-clause-puts
 returns-in_default-clause-puts g c =
@@ -36,14 +31,10 @@ returns-in_default-clause-puts g c =
     after)
 
 pub returns-in_err-had-clause-notes : goal.returns-in_err-had-clause-notes
-returns-in_err-had-clause-notes g c =
-    notes_twice g.L.Law.holds (noting c.args.tx.now) (noting c.find.new.tx) (noting c.replace.new.self)
-    c.in_ok-found.ensures.notes c.in_err-had.ensures.notes
+returns-in_err-had-clause-notes g c = notes_twice c.in_ok-found.ensures.notes c.in_err-had.ensures.notes
 
 pub returns-clause-notes : goal.returns-clause-notes
-returns-clause-notes g c =
-    notes_twice g.L.Law.holds (noting c.args.tx.now) (noting c.find.new.tx) (noting c.replace.new.self)
-    c.in_ok-found.ensures.notes c.in_ok-had.ensures.notes
+returns-clause-notes g c = notes_twice c.in_ok-found.ensures.notes c.in_ok-had.ensures.notes
 
 pub returns-clause-puts : goal.returns-clause-puts
 returns-clause-puts g c =

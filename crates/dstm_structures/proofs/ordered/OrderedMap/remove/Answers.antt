@@ -1,6 +1,5 @@
 use Rattle.std.proofs.Common.{ℕ, arith, subst}
 use Rattle.std.specs.Prelude.{None, Option, Some}
-use Rattle.dstm_cells.specs.Alternatives.{noting}
 use Rattle.dstm_structures.specs.Effects.{Does}
 use Rattle.dstm_structures.specs.Maps.{Seeks, end_of}
 use Rattle.dstm_structures.specs.Ordered.{Removes, Takes}
@@ -21,19 +20,15 @@ returns-in_default-clause-removes g c =
     (λ before after size. removes-none g.V.Word.found c.args.self c.args.key before after)
 
 pub returns-in_err-value-clause-notes : goal.returns-in_err-value-clause-notes
-returns-in_err-value-clause-notes g c =
-    notes_twice g.L.Law.holds (noting c.args.tx.now) (noting c.find.new.tx) (noting c.get.new.self)
-    c.in_ok-found.ensures.notes c.in_err-value.ensures.notes
+returns-in_err-value-clause-notes g c = notes_twice c.in_ok-found.ensures.notes c.in_err-value.ensures.notes
 
 pub returns-in_err-take-clause-notes : goal.returns-in_err-take-clause-notes
 returns-in_err-take-clause-notes g c =
-    notes_thrice g.L.Law.holds (noting c.args.tx.now) (noting c.find.new.tx) (noting c.get.new.self) (noting c.take.new.tx)
-    c.in_ok-found.ensures.notes c.in_ok-value.ensures.notes c.in_err-take.ensures.notes
+    notes_thrice c.in_ok-found.ensures.notes c.in_ok-value.ensures.notes c.in_err-take.ensures.notes
 
 pub returns-clause-notes : goal.returns-clause-notes
 returns-clause-notes g c =
-    notes_thrice g.L.Law.holds (noting c.args.tx.now) (noting c.find.new.tx) (noting c.get.new.self) (noting c.take.new.tx)
-    c.in_ok-found.ensures.notes c.in_ok-value.ensures.notes c.in_ok-take.ensures.notes
+    notes_thrice c.in_ok-found.ensures.notes c.in_ok-value.ensures.notes c.in_ok-take.ensures.notes
 
 pub returns-clause-removes : goal.returns-clause-removes
 returns-clause-removes g c =

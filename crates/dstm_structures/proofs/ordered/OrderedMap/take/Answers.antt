@@ -1,5 +1,4 @@
 use Rattle.std.proofs.Common.{arith}
-use Rattle.dstm_cells.specs.Alternatives.{noting}
 use Rattle.dstm_structures.specs.Maps.{ClearsAll, end_of}
 use Rattle.dstm_structures.specs.Ordered.{Takes}
 use Rattle.dstm_structures.specs.Orders.{order_end}
@@ -10,14 +9,10 @@ use Rattle.dstm_structures.proofs.Placing.{takes-key}
 use Rattle.dstm_structures.proofs.ordered.OrderedMap.take.Goals as goal
 
 pub returns-in_err-clear-clause-notes : goal.returns-in_err-clear-clause-notes
-returns-in_err-clear-clause-notes g c =
-    notes_twice g.L.Law.holds (noting c.args.tx.now) (noting c.drop_key.new.tx) (noting c.clear.new.tx)
-    c.in_ok-drop_key.ensures.notes c.in_err-clear.ensures.notes
+returns-in_err-clear-clause-notes g c = notes_twice c.in_ok-drop_key.ensures.notes c.in_err-clear.ensures.notes
 
 pub returns-clause-notes : goal.returns-clause-notes
-returns-clause-notes g c =
-    notes_twice g.L.Law.holds (noting c.args.tx.now) (noting c.drop_key.new.tx) (noting c.clear.new.tx)
-    c.in_ok-drop_key.ensures.notes c.in_ok-clear.ensures.notes
+returns-clause-notes g c = notes_twice c.in_ok-drop_key.ensures.notes c.in_ok-clear.ensures.notes
 
 pub returns-clause-takes : goal.returns-clause-takes
 returns-clause-takes g c =

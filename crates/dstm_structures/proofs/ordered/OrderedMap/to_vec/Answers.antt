@@ -1,5 +1,4 @@
 use Rattle.std.proofs.Common.{◌∙◌, ℕ, List, subst, sym}
-use Rattle.dstm_cells.specs.Alternatives.{noting}
 use Rattle.dstm_structures.specs.Items.{ListsInOrder}
 use Rattle.dstm_structures.specs.Ordered.{TellsAbove, TellsFirst}
 use Rattle.dstm_structures.specs.Orders.{order_end}
@@ -21,15 +20,12 @@ loop-next-init g c = (
 )
 
 pub returns-in_err-above-clause-notes : goal.returns-in_err-above-clause-notes
-returns-in_err-above-clause-notes g c =
-    notes_twice g.L.Law.holds (noting c.args.tx.now) (noting c.loop-next.tx) (noting c.next_above.new.tx)
-    c.loop-next.invariant.1 c.in_err-above.ensures.notes
+returns-in_err-above-clause-notes g c = notes_twice c.loop-next.invariant.1 c.in_err-above.ensures.notes
 
 pub loop-next-preserved : goal.loop-next-preserved
 loop-next-preserved g c = (
   c.in_ok-above.ensures.keeps ∙ c.loop-next.invariant.0,
-  notes_twice g.L.Law.holds (noting c.args.tx.now) (noting c.loop-next.tx) (noting c.next_above.new.tx)
-      c.loop-next.invariant.1 c.in_ok-above.ensures.notes,
+  notes_twice c.loop-next.invariant.1 c.in_ok-above.ensures.notes,
   does-then g.L.Law.holds (order_end c.args.self.map.cells)
       (Walking g.V.Word.found c.args.self c.loop-next.items.items c.loop-next.next)
       (TellsAbove g.V.Word.found c.args.self c.in-Some.entry.0 c.in_ok-above.above)

@@ -1,17 +1,12 @@
-use Rattle.dstm_cells.specs.Alternatives.{noting}
 use Rattle.dstm_structures.proofs.Effects.{fronted}
 use Rattle.dstm_structures.proofs.Noting.{notes_twice}
 use Rattle.dstm_structures.proofs.queue.Queue.front.Goals as goal
 
 pub returns-in_err-value-clause-notes : goal.returns-in_err-value-clause-notes
-returns-in_err-value-clause-notes g c =
-    notes_twice g.L.Law.holds (noting c.args.tx.now) (noting c.get.new.self) (noting c.get-2.new.self)
-    c.in_ok-ends.ensures.notes c.in_err-value.ensures.notes
+returns-in_err-value-clause-notes g c = notes_twice c.in_ok-ends.ensures.notes c.in_err-value.ensures.notes
 
 pub returns-clause-notes : goal.returns-clause-notes
-returns-clause-notes g c =
-    notes_twice g.L.Law.holds (noting c.args.tx.now) (noting c.get.new.self) (noting c.get-2.new.self)
-    c.in_ok-ends.ensures.notes c.in_ok-value.ensures.notes
+returns-clause-notes g c = notes_twice c.in_ok-ends.ensures.notes c.in_ok-value.ensures.notes
 
 pub returns-clause-fronts : goal.returns-clause-fronts
 returns-clause-fronts g c =

@@ -1,23 +1,17 @@
 use Rattle.std.proofs.Common.{ℕ, ◌-◌, ap}
-use Rattle.dstm_cells.specs.Alternatives.{noting}
 use Rattle.dstm_structures.proofs.Effects.{popped}
 use Rattle.dstm_structures.proofs.Noting.{notes_thrice, notes_twice}
 use Rattle.dstm_structures.proofs.queue.Queue.try_pop.Goals as goal
 
 pub returns-in_err-value-clause-notes : goal.returns-in_err-value-clause-notes
-returns-in_err-value-clause-notes g c =
-    notes_twice g.L.Law.holds (noting c.args.tx.now) (noting c.get.new.self) (noting c.get-2.new.self)
-    c.in_ok-ends.ensures.notes c.in_err-value.ensures.notes
+returns-in_err-value-clause-notes g c = notes_twice c.in_ok-ends.ensures.notes c.in_err-value.ensures.notes
 
 pub returns-in_err-set-clause-notes : goal.returns-in_err-set-clause-notes
 returns-in_err-set-clause-notes g c =
-    notes_thrice g.L.Law.holds (noting c.args.tx.now) (noting c.get.new.self) (noting c.get-2.new.self)
-    (noting c.set.new.self) c.in_ok-ends.ensures.notes c.in_ok-value.ensures.notes c.in_err-set.ensures.notes
+    notes_thrice c.in_ok-ends.ensures.notes c.in_ok-value.ensures.notes c.in_err-set.ensures.notes
 
 pub returns-clause-notes : goal.returns-clause-notes
-returns-clause-notes g c =
-    notes_thrice g.L.Law.holds (noting c.args.tx.now) (noting c.get.new.self) (noting c.get-2.new.self)
-    (noting c.set.new.self) c.in_ok-ends.ensures.notes c.in_ok-value.ensures.notes c.in_ok-set.ensures.notes
+returns-clause-notes g c = notes_thrice c.in_ok-ends.ensures.notes c.in_ok-value.ensures.notes c.in_ok-set.ensures.notes
 
 pub returns-clause-pops : goal.returns-clause-pops
 returns-clause-pops g c =

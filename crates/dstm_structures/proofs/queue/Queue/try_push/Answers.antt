@@ -1,4 +1,3 @@
-use Rattle.dstm_cells.specs.Alternatives.{noting}
 use Rattle.dstm_structures.proofs.Effects.{full, pushed}
 use Rattle.dstm_structures.proofs.Noting.{notes_thrice, notes_twice}
 use Rattle.dstm_structures.proofs.queue.Queue.try_push.Goals as goal
@@ -10,19 +9,14 @@ returns-then-count-self-clause-pushes g c =
     c.if-count-self.true c.in_ok-ends.ensures.gets
 
 pub returns-in_err-set-clause-notes : goal.returns-in_err-set-clause-notes
-returns-in_err-set-clause-notes g c =
-    notes_twice g.L.Law.holds (noting c.args.tx.now) (noting c.get.new.self) (noting c.set.new.self)
-    c.in_ok-ends.ensures.notes c.in_err-set.ensures.notes
+returns-in_err-set-clause-notes g c = notes_twice c.in_ok-ends.ensures.notes c.in_err-set.ensures.notes
 
 pub returns-in_err-set-2-clause-notes : goal.returns-in_err-set-2-clause-notes
 returns-in_err-set-2-clause-notes g c =
-    notes_thrice g.L.Law.holds (noting c.args.tx.now) (noting c.get.new.self) (noting c.set.new.self)
-    (noting c.set-2.new.self) c.in_ok-ends.ensures.notes c.in_ok-set.ensures.notes c.in_err-set-2.ensures.notes
+    notes_thrice c.in_ok-ends.ensures.notes c.in_ok-set.ensures.notes c.in_err-set-2.ensures.notes
 
 pub returns-clause-notes : goal.returns-clause-notes
-returns-clause-notes g c =
-    notes_thrice g.L.Law.holds (noting c.args.tx.now) (noting c.get.new.self) (noting c.set.new.self)
-    (noting c.set-2.new.self) c.in_ok-ends.ensures.notes c.in_ok-set.ensures.notes c.in_ok-set-2.ensures.notes
+returns-clause-notes g c = notes_thrice c.in_ok-ends.ensures.notes c.in_ok-set.ensures.notes c.in_ok-set-2.ensures.notes
 
 pub returns-clause-pushes : goal.returns-clause-pushes
 returns-clause-pushes g c =

@@ -1,5 +1,4 @@
 use Rattle.std.proofs.Common.{◌∙◌, arith, sym}
-use Rattle.dstm_cells.specs.Alternatives.{noting}
 use Rattle.dstm_structures.specs.Maps.{Seeks, end_of}
 use Rattle.dstm_structures.specs.Ordered.{Adding}
 use Rattle.dstm_structures.specs.Orders.{order_end}
@@ -21,14 +20,10 @@ returns-then-is_some-clause-inserts g c =
     (sym c.is_some.ensures ∙ c.if-is_some.true))
 
 pub returns-in_err-placed-clause-notes : goal.returns-in_err-placed-clause-notes
-returns-in_err-placed-clause-notes g c =
-    notes_twice g.L.Law.holds (noting c.args.tx.now) (noting c.find.new.tx) (noting c.add.new.tx)
-    c.in_ok-found.ensures.notes c.in_err-placed.ensures.notes
+returns-in_err-placed-clause-notes g c = notes_twice c.in_ok-found.ensures.notes c.in_err-placed.ensures.notes
 
 pub returns-clause-notes : goal.returns-clause-notes
-returns-clause-notes g c =
-    notes_twice g.L.Law.holds (noting c.args.tx.now) (noting c.find.new.tx) (noting c.add.new.tx)
-    c.in_ok-found.ensures.notes c.in_ok-placed.ensures.notes
+returns-clause-notes g c = notes_twice c.in_ok-found.ensures.notes c.in_ok-placed.ensures.notes
 
 pub returns-clause-inserts : goal.returns-clause-inserts
 returns-clause-inserts g c =
