@@ -304,7 +304,7 @@ module _ (cells : Rows) where
     words_same c = ap words_of (sets.others (first + 3 * n + 1 + c) (λ e. omega (arith, e)))
 
     keys_same : (a : ℕ) → a < n → key_told cells after a ≡ key_told cells near a
-    keys_same a here = ap key_of (sets.others (first + n + a) (λ e. omega (arith, e, here)))
+    keys_same a here = ap key_of (sets.others (first + 3 * a + 1) (λ e. omega (arith, e, here)))
 
     held_there : (t : Trie) → HoldsIn first n near t → HoldsIn first n after t
     held_there t held =

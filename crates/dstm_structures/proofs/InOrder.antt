@@ -45,7 +45,8 @@ module _ (first n : ℕ) (some : 0 < n) where
         t,
         record {
           root = root ∙ by.root;
-          held = holds-by n (keys_in first n before) (keys_in first n after) (forks_in first n before) (forks_in first n after)
+          held =
+              holds-by n (keys_in first before) (keys_in first after) (forks_in first n before) (forks_in first n after)
               forks t (λ a k h. (place-holds first n some after k a (places k ∙ by.there a k h)).0) by.held;
           split = by.split;
           there = λ a k h. places k ∙ by.there a k h;
@@ -55,16 +56,18 @@ module _ (first n : ℕ) (some : 0 < n) where
 
   -- where a change sets nothing of the order, and no cell that tells keys or how far they are looked for
   pub order-apart : {V : Type 0} (found : Val → V) (before after : List Val) →
-      ((o : ℕ) → first ≤ o → o < first + 4 * n + 1 → (o < first + 2 * n) ⊎ (first + 3 * n ≤ o) →
+      ((o : ℕ) → first ≤ o → o < first + 4 * n + 1 → ((q : ℕ) → q < n → o ≡ first + 3 * q + 2 → ⊥) →
       value_at after o ≡ value_at before o) → IsOrdered first n before → IsOrdered first n after
   order-apart found before after same order =
-      order-kept before after (ap low_of (same (first + 3 * n) (omega arith) (omega (arith, some)) (inr (omega arith))))
-      (λ p here. ap words_of (same (first + 3 * n + 1 + p) (omega arith) (omega (arith, here)) (inr (omega arith))))
+      order-kept before after
+      (ap low_of (same (first + 3 * n) (omega arith) (omega (arith, some)) (λ q below e. omega (arith, e))))
+      (λ p here. ap words_of
+      (same (first + 3 * n + 1 + p) (omega arith) (omega (arith, here)) (λ q below e. omega (arith, e, below))))
       (λ k. place-kept found first n some before after k
       (λ q below. ap (λ (v : Val). is_key k (key_of v))
-      (same (first + n + q) (omega arith) (omega (arith, below)) (inl (omega (arith, below)))))
+      (same (first + 3 * q + 1) (omega arith) (omega (arith, below)) (λ p here e. omega (arith, e))))
       (λ h below. ap (λ (v : Val). cond (nat_lt (reach_of v) n) (reach_of v) n)
-      (same (first + h) (omega arith) (omega (arith, below)) (inl (omega (arith, below))))))
+      (same (first + 3 * h) (omega arith) (omega (arith, below)) (λ p here e. omega (arith, e)))))
       order
 
 module _ {V : Type 0} (found : Val → V) (map : OrderedMap V) where
@@ -88,7 +91,7 @@ module _ {V : Type 0} (found : Val → V) (map : OrderedMap V) where
       item_of found map.map values k ≡ None
   no-item values k none = by (place_in f n values k) none
     where
-      by : (o : Option ℕ) → ((q : ℕ) → o ≡ Some q → ⊥) → at_place (values_in found f n values) o ≡ None
+      by : (o : Option ℕ) → ((q : ℕ) → o ≡ Some q → ⊥) → at_place (values_in found f values) o ≡ None
       by None never = refl
       by (Some q) never = absurd (never q refl)
 
@@ -96,9 +99,9 @@ module _ {V : Type 0} (found : Val → V) (map : OrderedMap V) where
   pub no-place : (values : List Val) (k : ℕ) → item_of found map.map values k ≡ None → place_in f n values k ≡ None
   no-place values k none = by (place_in f n values k) none
     where
-      by : (o : Option ℕ) → at_place (values_in found f n values) o ≡ None → o ≡ None
+      by : (o : Option ℕ) → at_place (values_in found f values) o ≡ None → o ≡ None
       by None e = refl
-      by (Some q) e = absurd (none_not (values_in found f n values q) (sym e))
+      by (Some q) e = absurd (none_not (values_in found f values q) (sym e))
 
   module _ (t : Trie) (values : List Val) (by : IsOrderedBy f n t values) where
     -- a key that a trie does not have has no item
@@ -106,14 +109,14 @@ module _ {V : Type 0} (found : Val → V) (map : OrderedMap V) where
     unhad k none = no-item values k (λ q at. none q (by.all q k at))
 
     -- the item of a key that stands at a place of the trie
-    had : (at key : ℕ) → Has at key t → item_of found map.map values key ≡ Some (values_in found f n values at)
-    had at key h = ap (at_place (values_in found f n values)) (by.there at key h)
+    had : (at key : ℕ) → Has at key t → item_of found map.map values key ≡ Some (values_in found f values at)
+    had at key h = ap (at_place (values_in found f values)) (by.there at key h)
 
     -- what was seen at this place
     seen-at : (at key : ℕ) (answer : Option (ℕ × V)) → Has at key t → answer ≡ entry_at found map values (Some at) →
-        answer ≡ Some (key, values_in found f n values at)
+        answer ≡ Some (key, values_in found f values at)
     seen-at at key answer h is =
-        is ∙ ap (λ (o : Option ℕ). entry_of found map o (values_in found f n values at))
+        is ∙ ap (λ (o : Option ℕ). entry_of found map o (values_in found f values at))
         (place-holds f n map.map.cells.some values key at (by.there at key h)).0
 
     end-by : (greatest : Bool) (place : Option ℕ) (answer : Option (ℕ × V)) → IsEdge greatest place t →
@@ -143,7 +146,7 @@ module _ {V : Type 0} (found : Val → V) (map : OrderedMap V) where
 
   -- no key is there
   bare-has : (values : List Val) → IsBare f n values → (k : ℕ) → item_of found map.map values k ≡ None
-  bare-has values bare k = ap (at_place (values_in found f n values)) (bare.none k)
+  bare-has values bare k = ap (at_place (values_in found f values)) (bare.none k)
 
   no-end : (greatest : Bool) (values : List Val) → IsBare f n values → IsEnd found map greatest None values
   no-end false values bare = bare-has values bare

@@ -32,7 +32,7 @@ module _ {V : Type 0} (map : HashMap V) where
   abbrev first : ℕ
   first = map.cells.first
 
-  module _ (at o : ℕ) (held : Option ℕ) (before mid : List Val) (o_is : o ≡ first + n + at)
+  module _ (at o : ℕ) (held : Option ℕ) (before mid : List Val) (o_is : o ≡ first + 3 * at + 1)
       (reads : Reads key_of o held before mid) where
     -- a key that is found there is the one that was read
     read_there : (key : ℕ) → place_in first n before key ≡ Some at → held ≡ Some key
@@ -85,9 +85,9 @@ module _ {V : Type 0} (found : Val → V) (map : HashMap V) where
   -- these are the items of so many places
   pub record Listing (passed : ℕ) (items : List (ℕ × V)) (before after : List Val) : Type 0 where
     pub has : (key at : ℕ) → at < passed → place_in f m before key ≡ Some at →
-        Contains items (key, values_in found f m before at)
+        Contains items (key, values_in found f before at)
     pub only : (key : ℕ) (value : V) → Contains items (key, value) →
-        (at : ℕ) × (at < passed) × (place_in f m before key ≡ Some at) × (values_in found f m before at ≡ value)
+        (at : ℕ) × (at < passed) × (place_in f m before key ≡ Some at) × (values_in found f before at ≡ value)
     pub once : AllPairs (λ one other. one.0 ≢ other.0) items
     pub same : after ≡ before
 
@@ -107,7 +107,7 @@ module _ {V : Type 0} (found : Val → V) (map : HashMap V) where
 
   list-on : (passed : ℕ) (items : List (ℕ × V)) (key : Option ℕ) (before after : List Val) →
       Listing passed items before before → Stands map passed key before after →
-      Listing (passed + 1) (with_item items key (values_in found f m before passed)) before after
+      Listing (passed + 1) (with_item items key (values_in found f before passed)) before after
   list-on passed items None before after l s = record {
     has = λ key at below place. each key at below place (cases_eq at passed);
     only = λ key value c.
@@ -117,7 +117,7 @@ module _ {V : Type 0} (found : Val → V) (map : HashMap V) where
   }
     where
       each : (key at : ℕ) → at < passed + 1 → place_in f m before key ≡ Some at → (at ≡ passed) ⊎ (at ≡ passed → ⊥) →
-          Contains items (key, values_in found f m before at)
+          Contains items (key, values_in found f before at)
       each key at below place (inl last) = absurd (none_not key (s.is key (place ∙ ap Some last)))
       each key at below place (inr apart) = l.has key at (omega (arith, below, apart)) place
   list-on passed items (Some here) before after l s = record {
@@ -129,21 +129,21 @@ module _ {V : Type 0} (found : Val → V) (map : HashMap V) where
   }
     where
       v : V
-      v = values_in found f m before passed
+      v = values_in found f before passed
 
       each : (key at : ℕ) → at < passed + 1 → place_in f m before key ≡ Some at → (at ≡ passed) ⊎ (at ≡ passed → ⊥) →
-          Contains (items ++ (here, v) ∷ []) (key, values_in found f m before at)
+          Contains (items ++ (here, v) ∷ []) (key, values_in found f before at)
       each key at below place (inl last) =
           let same : here ≡ key = some_is here key (s.is key (place ∙ ap Some last)) in
           subst (λ (x : ℕ × V). Contains (items ++ (here, v) ∷ []) x)
-          (ap (λ (k : ℕ). (k, v)) same ∙ ap (λ (a : ℕ). (key, values_in found f m before a)) (sym last))
+          (ap (λ (k : ℕ). (k, v)) same ∙ ap (λ (a : ℕ). (key, values_in found f before a)) (sym last))
           (Contains-push items (here, v))
       each key at below place (inr apart) =
-          Contains-append_left items ((here, v) ∷ []) (key, values_in found f m before at)
+          Contains-append_left items ((here, v) ∷ []) (key, values_in found f before at)
           (l.has key at (omega (arith, below, apart)) place)
 
       from : (key : ℕ) (value : V) → Contains items (key, value) ⊎ ◌≡◌ {A = ℕ × V} (here, v) (key, value) →
-          (at : ℕ) × (at < passed + 1) × (place_in f m before key ≡ Some at) × (values_in found f m before at ≡ value)
+          (at : ℕ) × (at < passed + 1) × (place_in f m before key ≡ Some at) × (values_in found f before at ≡ value)
       from key value (inl old) =
           let o = l.only key value old in (o.0, omega (arith, o.1), o.2, o.3)
       from key value (inr new) = (
@@ -177,16 +177,16 @@ module _ {V : Type 0} (found : Val → V) (map : HashMap V) where
   list-end passed items before after end l = record {
     all = λ key value is. by key value (place_in f m before key) refl is;
     only = λ key value c.
-        let o = l.only key value c in ap (at_place (values_in found f m before)) o.2 ∙ ap Some o.3;
+        let o = l.only key value c in ap (at_place (values_in found f before)) o.2 ∙ ap Some o.3;
     once = l.once;
     same = l.same;
   }
     where
       by : (key : ℕ) (value : V) (place : Option ℕ) → place_in f m before key ≡ place →
-          at_place (values_in found f m before) place ≡ Some value → Contains items (key, value)
+          at_place (values_in found f before) place ≡ Some value → Contains items (key, value)
       by key value None place is = absurd (none_not value is)
       by key value (Some at) place is =
-          subst (λ (x : V). Contains items (key, x)) (some_is (values_in found f m before at) value is)
+          subst (λ (x : V). Contains items (key, x)) (some_is (values_in found f before at) value is)
           (l.has key at
           (omega (arith, (place-holds f m map.cells.some before key at place).1, end)) place)
 
@@ -211,7 +211,7 @@ module _ {V : Type 0} (found : Val → V) (map : HashMap V) where
   }
     where
       v : V
-      v = values_in found f m mid passed
+      v = values_in found f mid passed
 
   pub count-end : (passed count : ℕ) (before after : List Val) → m ≤ passed → Counting passed count before after →
       Counts found map count before after
@@ -228,11 +228,11 @@ module _ {V : Type 0} (found : Val → V) (map : HashMap V) where
   place-none at items key before after none s = record {
     key = key;
     stands = s;
-    is = sym (ap (λ (k : Option ℕ). with_item items k (values_in found f m before at)) none);
+    is = sym (ap (λ (k : Option ℕ). with_item items k (values_in found f before at)) none);
   }
 
   pub place-some : (at key o : ℕ) (value : V) (old new : List (ℕ × V)) (told : Option ℕ) (before mid after : List Val) →
-      o ≡ f + 2 * m + at → told ≡ Some key → new ≡ old ++ (key, value) ∷ [] → Stands map at told before mid →
+      o ≡ f + 3 * at + 2 → told ≡ Some key → new ≡ old ++ (key, value) ∷ [] → Stands map at told before mid →
       Reads found o value mid after → ListsPlace found map at old new before after
   place-some at key o value old new told before mid after o_is is grown s reads = record {
     key = told;
@@ -240,8 +240,8 @@ module _ {V : Type 0} (found : Val → V) (map : HashMap V) where
     is = grown
         ∙ ap (λ (x : V). old ++ (key, x) ∷ [])
         (reads.is ∙ ap (λ (x : ℕ). found (value_at mid x)) o_is
-        ∙ ap (λ (xs : List Val). values_in found f m xs at) s.same)
-        ∙ sym (ap (λ (k : Option ℕ). with_item old k (values_in found f m before at)) is);
+        ∙ ap (λ (xs : List Val). values_in found f xs at) s.same)
+        ∙ sym (ap (λ (k : Option ℕ). with_item old k (values_in found f before at)) is);
   }
 
 -- ---- the items of an ordered map

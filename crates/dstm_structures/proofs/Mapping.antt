@@ -24,26 +24,26 @@ module _ {V : Type 0} (map : HashMap V) where
 
   -- ---- at how many places keys are looked for
 
-  pub reach-few : (h o told reach : ℕ) (before after : List Val) → o ≡ first + h → told < n → reach ≡ told →
+  pub reach-few : (h o told reach : ℕ) (before after : List Val) → o ≡ first + 3 * h → told < n → reach ≡ told →
       Reads reach_of o told before after → Reaches map h reach before after
   reach-few h o told reach before after at few same reads =
-      let is : told ≡ reach_of (value_at before (first + h)) =
+      let is : told ≡ reach_of (value_at before (first + 3 * h)) =
       reads.is ∙ ap (λ (x : ℕ). reach_of (value_at before x)) at in
       record { is = same ∙ grind (arith, is, few); same = reads.same }
 
-  pub reach-all : (h o told : ℕ) (before after : List Val) → o ≡ first + h → n ≤ told →
+  pub reach-all : (h o told : ℕ) (before after : List Val) → o ≡ first + 3 * h → n ≤ told →
       Reads reach_of o told before after → Reaches map h n before after
   reach-all h o told before after at many reads =
-      let is : told ≡ reach_of (value_at before (first + h)) =
+      let is : told ≡ reach_of (value_at before (first + 3 * h)) =
       reads.is ∙ ap (λ (x : ℕ). reach_of (value_at before x)) at in
       record { is = grind (arith, is, many); same = reads.same }
 
   -- a place's key was read
-  key_read : (at o : ℕ) (held : Option ℕ) (before mid after : List Val) → o ≡ first + n + at → mid ≡ before →
+  key_read : (at o : ℕ) (held : Option ℕ) (before mid after : List Val) → o ≡ first + 3 * at + 1 → mid ≡ before →
       Reads key_of o held mid after → held ≡ key_at map before at
   key_read at o held before mid after o_is same reads =
       reads.is ∙ ap (λ (x : ℕ). key_of (value_at mid x)) o_is
-      ∙ ap (λ (xs : List Val). key_of (value_at xs (first + n + at))) same
+      ∙ ap (λ (xs : List Val). key_of (value_at xs (first + 3 * at + 1))) same
 
   -- ---- the search for a key
 
@@ -70,7 +70,7 @@ module _ {V : Type 0} (map : HashMap V) where
       }
 
   module _ (key reach passed h at o : ℕ) (held : Option ℕ) (before mid after : List Val) (more : passed < reach)
-      (home : h ≡ homes map key) (at_is : at ≡ behind n h passed) (o_is : o ≡ first + n + at)
+      (home : h ≡ homes map key) (at_is : at ≡ behind n h passed) (o_is : o ≡ first + 3 * at + 1)
       (s : Seeking key reach passed before mid) (reads : Reads key_of o held mid after) where
     step : find n (key_at map before) key (homes map key) passed (reach - passed)
         ≡ cond (is_key key held) (Some at) (find n (key_at map before) key (homes map key) (passed + 1) (reach - (passed + 1)))
@@ -122,7 +122,7 @@ module _ {V : Type 0} (map : HashMap V) where
   }
 
   module _ (h reach passed at o : ℕ) (held : Option ℕ) (beyond : Bool) (before mid after : List Val)
-      (at_is : at ≡ behind n h passed) (o_is : o ≡ first + n + at)
+      (at_is : at ≡ behind n h passed) (o_is : o ≡ first + 3 * at + 1)
       (beyond_is : beyond ≡ cond (nat_lt passed reach) false true) (p : Passing h reach passed before mid)
       (reads : Reads key_of o held mid after) where
     looked : is_free (homes map) h (cond (nat_lt passed (reach_at map before h)) false true)
@@ -165,20 +165,21 @@ module _ {V : Type 0} (map : HashMap V) where
       stays a le = grind (arith, le)
 
   pub extend-more : (h reach far o was told : ℕ) (before mid after : List Val) → end_of map ≤ length before → h < n → far ≤ n →
-      o ≡ first + h → told ≡ far → reach < far → Reaches map h reach before mid → Writes reach_of o was told mid after →
-      Extends map h far before after
+      o ≡ first + 3 * h → told ≡ far → reach < far → Reaches map h reach before mid →
+      Writes reach_of o was told mid after → Extends map h far before after
   extend-more h reach far o was told before mid after size home most o_is told_is less r writes =
-      let whole : after ≡ slice_set before (first + h) writes.kept =
+      let whole : after ≡ slice_set before (first + 3 * h) writes.kept =
       writes.after_is ∙ ap (λ (xs : List Val). slice_set xs o writes.kept) r.same
       ∙ ap (λ (x : ℕ). slice_set before x writes.kept) o_is in
-      let top : reach_of (value_at after (first + h)) ≡ far =
-      ap (λ (xs : List Val). reach_of (value_at xs (first + h))) whole
-      ∙ ap reach_of (get_or-set_same before (first + h) writes.kept no_value (omega (arith, size, home))) ∙ writes.is ∙ told_is in
+      let top : reach_of (value_at after (first + 3 * h)) ≡ far =
+      ap (λ (xs : List Val). reach_of (value_at xs (first + 3 * h))) whole
+      ∙ ap reach_of (get_or-set_same before (first + 3 * h) writes.kept no_value (omega (arith, size, home)))
+      ∙ writes.is ∙ told_is in
       record {
         is = ap (λ (x : ℕ). cond (nat_lt x n) x n) top ∙ all far most
             ∙ grows (reach_at map before h) (omega (arith, r.is, less));
         others = λ x apart. ap (λ (xs : List Val). value_at xs x) whole
-            ∙ get_or-set_other before (first + h) x writes.kept no_value apart;
+            ∙ get_or-set_other before (first + 3 * h) x writes.kept no_value apart;
       }
     where
       all : (a : ℕ) → a ≤ n → cond (nat_lt a n) a n ≡ a
@@ -219,7 +220,7 @@ module _ {V : Type 0} (map : HashMap V) where
     clears = record {
       gone = λ j below. each j below (cases_eq (behind n (homes map key) j) at);
       keys = λ k p apart. e.keys k p apart ∙ c.clears.keys k p apart;
-      others = λ o out. around o out;
+      others = λ o out. e.others o (out at here) ∙ c.clears.others o out;
     };
   }
     where
@@ -230,14 +231,10 @@ module _ {V : Type 0} (map : HashMap V) where
           let away : j ≡ passed → ⊥ =
           λ is. apart (ap (behind n (homes map key)) is ∙ sym (at_is ∙ ap (λ (x : ℕ). behind n x passed) home)) in
           ap (λ (v : Val). is_key key (key_of v))
-          (e.others (first + n + behind n (homes map key) j) (λ is. apart (omega (arith, is))))
+          (e.others (first + 3 * behind n (homes map key) j + 1) (λ is. apart (omega (arith, is))))
           ∙ c.clears.gone j (omega (arith, below, away))
 
-      around : (o : ℕ) → (o < first + n) ⊎ (first + 2 * n ≤ o) → value_at after o ≡ value_at before o
-      around o (inl low) = e.others o (λ is. omega (arith, is, low)) ∙ c.clears.others o (inl low)
-      around o (inr high) = e.others o (λ is. omega (arith, is, high, here)) ∙ c.clears.others o (inr high)
-
-  pub empties-none : (at key o : ℕ) (held : Option ℕ) (before after : List Val) → o ≡ first + n + at →
+  pub empties-none : (at key o : ℕ) (held : Option ℕ) (before after : List Val) → o ≡ first + 3 * at + 1 →
       is_key key held ≡ false → Reads key_of o held before after → Empties map at key before after
   empties-none at key o held before after o_is other reads = record {
     gone = ap (λ (xs : List Val). is_key key (key_at map xs at)) reads.same
@@ -247,18 +244,19 @@ module _ {V : Type 0} (map : HashMap V) where
   }
 
   pub empties-some : (at key o p : ℕ) (held had : Option ℕ) (before mid after : List Val) → end_of map ≤ length before →
-      at < n → o ≡ first + n + at → p ≡ first + n + at → is_key key held ≡ true → Reads key_of o held before mid →
-      Writes key_of p had None mid after → Empties map at key before after
+      at < n → o ≡ first + 3 * at + 1 → p ≡ first + 3 * at + 1 → is_key key held ≡ true →
+      Reads key_of o held before mid → Writes key_of p had None mid after → Empties map at key before after
   empties-some at key o p held had before mid after size here o_is p_is it reads writes =
-      let whole : after ≡ slice_set before (first + n + at) writes.kept =
+      let whole : after ≡ slice_set before (first + 3 * at + 1) writes.kept =
       writes.after_is ∙ ap (λ (xs : List Val). slice_set xs p writes.kept) reads.same
       ∙ ap (λ (x : ℕ). slice_set before x writes.kept) p_is in
       let top : key_at map after at ≡ None =
-      ap (λ (xs : List Val). key_of (value_at xs (first + n + at))) whole
-      ∙ ap key_of (get_or-set_same before (first + n + at) writes.kept no_value (omega (arith, size, here))) ∙ writes.is in
-      let kept : (x : ℕ) → (x ≡ first + n + at → ⊥) → value_at after x ≡ value_at before x =
+      ap (λ (xs : List Val). key_of (value_at xs (first + 3 * at + 1))) whole
+      ∙ ap key_of (get_or-set_same before (first + 3 * at + 1) writes.kept no_value (omega (arith, size, here)))
+      ∙ writes.is in
+      let kept : (x : ℕ) → (x ≡ first + 3 * at + 1 → ⊥) → value_at after x ≡ value_at before x =
       λ x apart. ap (λ (xs : List Val). value_at xs x) whole
-      ∙ get_or-set_other before (first + n + at) x writes.kept no_value apart in
+      ∙ get_or-set_other before (first + 3 * at + 1) x writes.kept no_value apart in
       record {
         gone = ap (is_key key) top;
         keys = λ k x apart. other k x apart top kept (cases_eq x at);
@@ -266,7 +264,7 @@ module _ {V : Type 0} (map : HashMap V) where
       }
     where
       other : (k x : ℕ) → (k ≡ key → ⊥) → key_at map after at ≡ None →
-          ((x : ℕ) → (x ≡ first + n + at → ⊥) → value_at after x ≡ value_at before x) → (x ≡ at) ⊎ (x ≡ at → ⊥) →
+          ((x : ℕ) → (x ≡ first + 3 * at + 1 → ⊥) → value_at after x ≡ value_at before x) → (x ≡ at) ⊎ (x ≡ at → ⊥) →
           is_key k (key_at map after x) ≡ is_key k (key_at map before x)
       other k x apart top kept (inl same) =
           ap (λ (y : ℕ). is_key k (key_at map after y)) same ∙ ap (is_key k) top
@@ -274,7 +272,7 @@ module _ {V : Type 0} (map : HashMap V) where
           ∙ ap (is_key k) (sym (sym (key_read at o held before before mid o_is refl reads) ∙ key_is key held it))
           ∙ ap (λ (y : ℕ). is_key k (key_at map before y)) (sym same)
       other k x apart top kept (inr away) =
-          ap (λ (v : Val). is_key k (key_of v)) (kept (first + n + x) (λ e. away (omega (arith, e))))
+          ap (λ (v : Val). is_key k (key_of v)) (kept (first + 3 * x + 1) (λ e. away (omega (arith, e))))
 
 -- ---- what the calls do
 
@@ -286,11 +284,11 @@ module _ {V : Type 0} (found : Val → V) (map : HashMap V) where
   m = map.cells.capacity
 
   pub stores : (at key o p : ℕ) (value was : V) (had : Option ℕ) (before mid after : List Val) → end_of map ≤ length before →
-      at < m → o ≡ f + m + at → p ≡ f + 2 * m + at → Writes key_of o had (Some key) before mid →
+      at < m → o ≡ f + 3 * at + 1 → p ≡ f + 3 * at + 2 → Writes key_of o had (Some key) before mid →
       Writes found p was value mid after → Stores found map at key value before after
   stores at key o p value was had before mid after size here o_is p_is puts sets =
-      let one : ℕ = f + m + at in
-      let two : ℕ = f + 2 * m + at in
+      let one : ℕ = f + 3 * at + 1 in
+      let two : ℕ = f + 3 * at + 2 in
       let middle : mid ≡ slice_set before one puts.kept =
       puts.after_is ∙ ap (λ (x : ℕ). slice_set before x puts.kept) o_is in
       let whole : after ≡ slice_set (slice_set before one puts.kept) two sets.kept =
@@ -300,7 +298,7 @@ module _ {V : Type 0} (found : Val → V) (map : HashMap V) where
       record {
         key_is = ap (λ (xs : List Val). key_of (value_at xs one)) whole
             ∙ ap key_of (get_or-set_other (slice_set before one puts.kept) two one sets.kept no_value
-            (λ e. omega (arith, e, here)) ∙ get_or-set_same before one puts.kept no_value (omega (arith, size, here)))
+            (λ e. omega (arith, e)) ∙ get_or-set_same before one puts.kept no_value (omega (arith, size, here)))
             ∙ puts.is;
         value_is = ap (λ (xs : List Val). found (value_at xs two)) whole
             ∙ ap found (get_or-set_same (slice_set before one puts.kept) two sets.kept no_value
@@ -314,41 +312,41 @@ module _ {V : Type 0} (found : Val → V) (map : HashMap V) where
   -- a key's value is told
   pub tells-none : (key : ℕ) (before after : List Val) → Seeks map key None before after → Tells found map key None before after
   tells-none key before after s = record {
-    is = sym (ap (at_place (values_in found f m before)) s.is);
+    is = sym (ap (at_place (values_in found f before)) s.is);
     same = s.same;
   }
 
   pub tells-if : (key : ℕ) (place : Option ℕ) (before after : List Val) → Seeks map key place before after →
       TellsIf found map key (is_some place) before after
   tells-if key place before after s = record {
-    is = sym (ap (λ (o : Option ℕ). is_some (at_place (values_in found f m before) o)) s.is ∙ there place);
+    is = sym (ap (λ (o : Option ℕ). is_some (at_place (values_in found f before) o)) s.is ∙ there place);
     same = s.same;
   }
     where
-      there : (o : Option ℕ) → is_some (at_place (values_in found f m before) o) ≡ is_some o
+      there : (o : Option ℕ) → is_some (at_place (values_in found f before) o) ≡ is_some o
       there None = refl
       there (Some at) = refl
 
-  at_gap : (gap p : ℕ) (v : V) (before mid : List Val) → p ≡ f + 2 * m + gap → mid ≡ before → v ≡ found (value_at mid p) →
-      v ≡ values_in found f m before gap
+  at_gap : (gap p : ℕ) (v : V) (before mid : List Val) → p ≡ f + 3 * gap + 2 → mid ≡ before →
+      v ≡ found (value_at mid p) → v ≡ values_in found f before gap
   at_gap gap p v before mid p_is same is =
       is ∙ ap (λ (x : ℕ). found (value_at mid x)) p_is
-      ∙ ap (λ (xs : List Val). found (value_at xs (f + 2 * m + gap))) same
+      ∙ ap (λ (xs : List Val). found (value_at xs (f + 3 * gap + 2))) same
 
-  pub tells-some : (key gap p : ℕ) (v : V) (before mid after : List Val) → p ≡ f + 2 * m + gap →
+  pub tells-some : (key gap p : ℕ) (v : V) (before mid after : List Val) → p ≡ f + 3 * gap + 2 →
       Seeks map key (Some gap) before mid → Reads found p v mid after → Tells found map key (Some v) before after
   tells-some key gap p v before mid after p_is s reads = record {
     is = ap Some (at_gap gap p v before mid p_is s.same reads.is)
-        ∙ sym (ap (at_place (values_in found f m before)) s.is);
+        ∙ sym (ap (at_place (values_in found f before)) s.is);
     same = reads.same ∙ s.same;
   }
 
   -- a key gets another value
   pub puts-instead : (key gap p : ℕ) (had value : V) (before mid after : List Val) → 0 < m → end_of map ≤ length before →
-      gap < m → p ≡ f + 2 * m + gap → Seeks map key (Some gap) before mid → Writes found p had value mid after →
+      gap < m → p ≡ f + 3 * gap + 2 → Seeks map key (Some gap) before mid → Writes found p had value mid after →
       Puts found map key value (Instead had) before after
   puts-instead key gap p had value before mid after some size here p_is s writes =
-      let at : ℕ = f + 2 * m + gap in
+      let at : ℕ = f + 3 * gap + 2 in
       let whole : after ≡ slice_set before at writes.kept =
       writes.after_is ∙ ap (λ (xs : List Val). slice_set xs p writes.kept) s.same
       ∙ ap (λ (x : ℕ). slice_set before x writes.kept) p_is in
@@ -356,21 +354,23 @@ module _ {V : Type 0} (found : Val → V) (map : HashMap V) where
       λ x apart. ap (λ (xs : List Val). value_at xs x) whole ∙ get_or-set_other before at x writes.kept no_value apart in
       let place : (k : ℕ) → place_in f m after k ≡ place_in f m before k =
       λ k. place-kept found f m some before after k
-      (λ q below. ap (λ (v : Val). is_key k (key_of v)) (kept (f + m + q) (λ e. omega (arith, e, below))))
+      (λ q below. ap (λ (v : Val). is_key k (key_of v)) (kept (f + 3 * q + 1) (λ e. omega (arith, e))))
       (λ h below. ap (λ (v : Val). cond (nat_lt (reach_of v) m) (reach_of v) m)
-      (kept (f + h) (λ e. omega (arith, e, below)))) in
+      (kept (f + 3 * h) (λ e. omega (arith, e)))) in
       record {
-        was = ap (at_place (values_in found f m before)) s.is ∙ ap Some (sym (at_gap gap p had before mid p_is s.same writes.was));
+        was = ap (at_place (values_in found f before)) s.is
+            ∙ ap Some (sym (at_gap gap p had before mid p_is s.same writes.was));
         is = replaced-here found f m some before after key gap value s.is (place key)
             (ap (λ (xs : List Val). found (value_at xs at)) whole
             ∙ ap found (get_or-set_same before at writes.kept no_value (omega (arith, size, here))) ∙ writes.is);
         others = λ k apart. replaced-other found f m some before after key gap k apart s.is (place k)
-            (λ q below away. ap found (kept (f + 2 * m + q) (λ e. away (omega (arith, e)))));
+            (λ q below away. ap found (kept (f + 3 * q + 2) (λ e. away (omega (arith, e)))));
         around = λ x out. beside x out kept;
       }
     where
       beside : (x : ℕ) → (x < f) ⊎ (f + 3 * m ≤ x) →
-          ((x : ℕ) → (x ≡ f + 2 * m + gap → ⊥) → value_at after x ≡ value_at before x) → value_at after x ≡ value_at before x
+          ((x : ℕ) → (x ≡ f + 3 * gap + 2 → ⊥) → value_at after x ≡ value_at before x) →
+          value_at after x ≡ value_at before x
       beside x (inl low) kept = kept x (λ e. omega (arith, e, low))
       beside x (inr high) kept = kept x (λ e. omega (arith, e, high, here))
 
@@ -390,7 +390,7 @@ module _ {V : Type 0} (found : Val → V) (map : HashMap V) where
   pub inserts-none : (key h : ℕ) (value : V) (before after : List Val) → 0 < m → h ≡ home_in m key →
       NoneFree map h before after → Inserts found map key value None before after
   inserts-none key h value before after some home none absent = record {
-    was = ap (at_place (values_in found f m before)) absent;
+    was = ap (at_place (values_in found f before)) absent;
     full = λ at here. all at (distance m h at homed here);
     same = none.same;
   }
@@ -414,7 +414,7 @@ module _ {V : Type 0} (found : Val → V) (map : HashMap V) where
       InsertsAt found map key (behind m (home_in m key) i) value before after
   inserts-here key i value before near after some few free s e absent = record {
     makes = record {
-      was = ap (at_place (values_in found f m before)) absent;
+      was = ap (at_place (values_in found f before)) absent;
       is = added-here found f m some before after key i value few absent free.free free.taken there others far as_far is values;
       others = λ k apart. added-other found f m some before after key i value few absent free.free free.taken there others far
           as_far is values k apart;
@@ -438,37 +438,39 @@ module _ {V : Type 0} (found : Val → V) (map : HashMap V) where
       place : p < m
       place = behind-below m h i homed few
 
-      kept : (x : ℕ) → (x ≡ f + m + p → ⊥) → (x ≡ f + 2 * m + p → ⊥) → (x ≡ f + h → ⊥) → value_at after x ≡ value_at before x
+      kept : (x : ℕ) → (x ≡ f + 3 * p + 1 → ⊥) → (x ≡ f + 3 * p + 2 → ⊥) → (x ≡ f + 3 * h → ⊥) →
+          value_at after x ≡ value_at before x
       kept x one two three = e.others x three ∙ s.others x one two
 
-      there : keys_in f m after p ≡ Some key
-      there = ap key_of (e.others (f + m + p) (λ same. omega (arith, same, homed))) ∙ s.key_is
+      there : keys_in f after p ≡ Some key
+      there = ap key_of (e.others (f + 3 * p + 1) (λ same. omega (arith, same))) ∙ s.key_is
 
-      others : (q : ℕ) → q < m → (q ≡ p → ⊥) → keys_in f m after q ≡ keys_in f m before q
+      others : (q : ℕ) → q < m → (q ≡ p → ⊥) → keys_in f after q ≡ keys_in f before q
       others q below apart =
-          ap key_of (kept (f + m + q) (λ same. apart (omega (arith, same))) (λ same. omega (arith, same, below))
-          (λ same. omega (arith, same, homed)))
+          ap key_of (kept (f + 3 * q + 1) (λ same. apart (omega (arith, same))) (λ same. omega (arith, same))
+          (λ same. omega (arith, same)))
 
       reach_near : (x : ℕ) → x < m → reach_at map near x ≡ reach_at map before x
       reach_near x below =
           ap (λ (v : Val). cond (nat_lt (reach_of v) m) (reach_of v) m)
-          (s.others (f + x) (λ same. omega (arith, same, below)) (λ same. omega (arith, same, below)))
+          (s.others (f + 3 * x) (λ same. omega (arith, same)) (λ same. omega (arith, same)))
 
       far : reach_at map after h ≡ cond (nat_lt (reach_at map before h) (i + 1)) (i + 1) (reach_at map before h)
       far = e.is ∙ ap (λ (r : ℕ). cond (nat_lt r (i + 1)) (i + 1) r) (reach_near h homed)
 
       as_far : (x : ℕ) → x < m → (x ≡ h → ⊥) → reach_at map after x ≡ reach_at map before x
       as_far x below apart =
-          ap (λ (v : Val). cond (nat_lt (reach_of v) m) (reach_of v) m) (e.others (f + x) (λ same. apart (omega (arith, same))))
+          ap (λ (v : Val). cond (nat_lt (reach_of v) m) (reach_of v) m)
+          (e.others (f + 3 * x) (λ same. apart (omega (arith, same))))
           ∙ reach_near x below
 
-      is : values_in found f m after p ≡ value
-      is = ap found (e.others (f + 2 * m + p) (λ same. omega (arith, same, homed))) ∙ s.value_is
+      is : values_in found f after p ≡ value
+      is = ap found (e.others (f + 3 * p + 2) (λ same. omega (arith, same))) ∙ s.value_is
 
-      values : (q : ℕ) → q < m → (q ≡ p → ⊥) → values_in found f m after q ≡ values_in found f m before q
+      values : (q : ℕ) → q < m → (q ≡ p → ⊥) → values_in found f after q ≡ values_in found f before q
       values q below apart =
-          ap found (kept (f + 2 * m + q) (λ same. omega (arith, same, place)) (λ same. apart (omega (arith, same)))
-          (λ same. omega (arith, same, homed)))
+          ap found (kept (f + 3 * q + 2) (λ same. omega (arith, same)) (λ same. apart (omega (arith, same)))
+          (λ same. omega (arith, same)))
 
       beside : (x : ℕ) → (x < f) ⊎ (f + 3 * m ≤ x) → value_at after x ≡ value_at before x
       beside x (inl low) =
@@ -497,17 +499,18 @@ module _ {V : Type 0} (found : Val → V) (map : HashMap V) where
     is = removed-here found f m some before after key c.gone (reach (home_in m key) (home-within m some key));
     others = λ k apart. item-same found f m some before after k
         (place-kept found f m some before after k (λ q below. c.keys k q apart) reach)
-        (λ q at. ap found (c.others (f + 2 * m + q) (inr (omega arith))));
+        (λ q there. ap found (c.others (f + 3 * q + 2) (λ at here e. omega (arith, e))));
     around = λ x out. beside x out;
   }
     where
       reach : (h : ℕ) → h < m → reach_at map after h ≡ reach_at map before h
       reach h below =
-          ap (λ (v : Val). cond (nat_lt (reach_of v) m) (reach_of v) m) (c.others (f + h) (inl (omega (arith, below))))
+          ap (λ (v : Val). cond (nat_lt (reach_of v) m) (reach_of v) m)
+          (c.others (f + 3 * h) (λ at here e. omega (arith, e)))
 
       beside : (x : ℕ) → (x < f) ⊎ (f + 3 * m ≤ x) → value_at after x ≡ value_at before x
-      beside x (inl low) = c.others x (inl (omega (arith, low)))
-      beside x (inr high) = c.others x (inr (omega (arith, high)))
+      beside x (inl low) = c.others x (λ at here e. omega (arith, e, low))
+      beside x (inr high) = c.others x (λ at here e. omega (arith, e, high, here))
 
   pub takes-out : (key : ℕ) (had : V) (before mid after : List Val) → 0 < m → Tells found map key (Some had) before mid →
       ClearsAll map key mid after → Makes found map key None (Some had) before after
@@ -526,7 +529,8 @@ module _ {V : Type 0} (found : Val → V) (map : HashMap V) where
 
     none : (h : ℕ) → h < m → reach_at map after h ≡ 0
     none h here =
-        ap (λ (v : Val). cond (nat_lt (reach_of v) m) (reach_of v) m) (made-each h (f + h) (omega (arith, here, many)) refl)
+        ap (λ (v : Val). cond (nat_lt (reach_of v) m) (reach_of v) m)
+        (made-each (3 * h) (f + 3 * h) (omega (arith, here, many)) refl)
         ∙ zero_reach kept.low low
       where
         zero_reach : (a : ℕ) → a ≡ 0 → cond (nat_lt a m) a m ≡ 0
@@ -540,11 +544,12 @@ module _ {V : Type 0} (found : Val → V) (map : HashMap V) where
         ap (λ (r : ℕ). find m (key_at map after) key (home_in m key) 0 r) (none (home_in m key) (home-within m some key))
 
     pub made-empty : (key : ℕ) → item_of found map after key ≡ None
-    made-empty key = ap (at_place (values_in found f m after)) (made-unplaced key)
+    made-empty key = ap (at_place (values_in found f after)) (made-unplaced key)
 
     pub made-free : (at : ℕ) → at < m → key_at map after at ≡ None
     made-free at here =
-        ap key_of (made-each (m + at) (f + m + at) (omega (arith, here, many)) (omega arith)) ∙ unkeyed kept high
+        ap key_of (made-each (3 * at + 1) (f + 3 * at + 1) (omega (arith, here, many)) (omega arith))
+        ∙ unkeyed kept high
 
   pub makes : (cells : ℕ) (kept : Val) (before after : List Val) → after ≡ before ++ replicate cells kept →
       kept.low ≡ 0 → kept.high ≡ 0 → f ≡ length before → cells ≡ 3 * m → 0 < m → Adds found map before after

@@ -23,7 +23,7 @@ module _ (cells : Rows) where
   pub led : (link : ℕ) (to : Link) (values : List Val) (t : Trie) → to ≡ link_in n link → link ≡ link_to t →
       HoldsIn first n values t → to ≡ leads t
   led link to values t is at held =
-      is ∙ ap (link_in n) at ∙ leads-to n (keys_in first n values) (forks_in first n values) t held
+      is ∙ ap (link_in n) at ∙ leads-to n (keys_in first values) (forks_in first n values) t held
 
   -- a trie below a fork whose cell told this
   pub record IsFork (at level prefix left right : ℕ) (values : List Val) (t : Trie) : Type 0 where
@@ -175,7 +175,7 @@ module _ (cells : Rows) where
           (g.is (2 * prefix + 1) r right_is (held-same before near r (e.same ∙ same) r_held) b.3))
 
   module _ (key link under at o : ℕ) (held : Option ℕ) (before after : List Val) (to : Tip at ≡ link_in n link)
-      (o_is : o ≡ first + n + at) (reads : Reads key_of o held before after) where
+      (o_is : o ≡ first + 3 * at + 1) (reads : Reads key_of o held before after) where
     somewhere-tip : link ≡ 0 → ⊥
     somewhere-tip zero = tip-not-nothing at (sym (to ∙ ap (link_in n) zero))
 
@@ -189,7 +189,8 @@ module _ (cells : Rows) where
         by (tip p k) e holds = (
           k,
           ap (λ (x : ℕ). tip x k) (sym (tip-same at p e)),
-          reads.is ∙ ap (λ (x : ℕ). key_of (value_at before x)) o_is ∙ ap (keys_in first n before) (tip-same at p e) ∙ holds.1,
+          reads.is ∙ ap (λ (x : ℕ). key_of (value_at before x)) o_is ∙ ap (keys_in first before) (tip-same at p e)
+              ∙ holds.1,
         )
 
     pub follows-tip : is_above key held ≡ true → Follows cells key link under (Some at) before after

@@ -63,7 +63,7 @@ module _ {V : Type 0} (found : Val → V) (map : OrderedMap V) where
   around-order o (inr high) = inr high
 
   pub puts-instead : (key gap p : ℕ) (had value : V) (before mid after : List Val) → f + 3 * n ≤ length before → gap < n →
-      p ≡ f + 2 * n + gap → Seeks map.map key (Some gap) before mid → Writes found p had value mid after →
+      p ≡ f + 3 * gap + 2 → Seeks map.map key (Some gap) before mid → Writes found p had value mid after →
       Puts found map key value (Instead had) before after
   puts-instead key gap p had value before mid after size here p_is s writes =
       let done = mapping.puts-instead found map.map key gap p had value before mid after some size here p_is s writes in
@@ -72,13 +72,9 @@ module _ {V : Type 0} (found : Val → V) (map : OrderedMap V) where
         is = done.is;
         others = done.others;
         around = λ o out. done.around o (outside o out);
-        order = order-apart f n some found before after (λ o from until out. kept o (away o out));
+        order = order-apart f n some found before after (λ o from until out. kept o (λ e. out gap here (e ∙ p_is)));
       }
     where
-      away : (o : ℕ) → (o < f + 2 * n) ⊎ (f + 3 * n ≤ o) → o ≡ p → ⊥
-      away o (inl low) e = omega (arith, low, e, p_is)
-      away o (inr high) e = omega (arith, high, e, p_is, here)
-
       kept : (o : ℕ) → (o ≡ p → ⊥) → value_at after o ≡ value_at before o
       kept o apart =
           ap (λ (xs : List Val). value_at xs o) writes.after_is ∙ get_or-set_other mid p o writes.kept no_value apart
@@ -90,13 +86,14 @@ module _ {V : Type 0} (found : Val → V) (map : OrderedMap V) where
     places-stay : (k : ℕ) → place_in f n after k ≡ place_in f n before k
     places-stay k =
         place-kept found f n some before after k
-        (λ q below. ap (λ (v : Val). is_key k (key_of v)) (others (f + n + q) (inl (omega (arith, below)))))
-        (λ h below. ap (λ (v : Val). cond (nat_lt (reach_of v) n) (reach_of v) n) (others (f + h) (inl (omega (arith, below)))))
+        (λ q below. ap (λ (v : Val). is_key k (key_of v)) (others (f + 3 * q + 1) (inl (omega (arith, below)))))
+        (λ h below. ap (λ (v : Val). cond (nat_lt (reach_of v) n) (reach_of v) n)
+        (others (f + 3 * h) (inl (omega (arith, below)))))
 
     items-stay : (k : ℕ) → item_of found map.map after k ≡ item_of found map.map before k
     items-stay k =
         item-same found f n some before after k (places-stay k)
-        (λ q at. ap found (others (f + 2 * n + q) (inl (omega (arith, (place-holds f n some before k q at).1)))))
+        (λ q at. ap found (others (f + 3 * q + 2) (inl (omega (arith, (place-holds f n some before k q at).1)))))
 
   -- ---- a key is added
 
@@ -110,7 +107,7 @@ module _ {V : Type 0} (found : Val → V) (map : OrderedMap V) where
     forks-stay : (p : ℕ) → forks_in f n mid p ≡ forks_in f n before p
     forks-stay p = ap words_of (put.makes.around (f + 3 * n + 1 + p) (inr (omega arith)))
 
-    here : keys_in f n mid at ≡ Some key
+    here : keys_in f mid at ≡ Some key
     here = (place-holds f n some mid key at put.there).0
 
     inside : at < n
@@ -157,7 +154,7 @@ module _ {V : Type 0} (found : Val → V) (map : OrderedMap V) where
 
         held : HoldsIn f n mid t
         held =
-            holds-by n (keys_in f n before) (keys_in f n mid) (forks_in f n before) (forks_in f n mid)
+            holds-by n (keys_in f before) (keys_in f mid) (forks_in f n before) (forks_in f n mid)
             (λ p below. forks-stay p) t
             (λ p k h. (place-holds f n some mid k p (put.places k (other p k h) ∙ o.there p k h)).0) o.held
 
@@ -196,7 +193,7 @@ module _ {V : Type 0} (found : Val → V) (map : OrderedMap V) where
   pub adds-none : (key : ℕ) (value : V) (before after : List Val) → NoFreeFork map.map.cells before after →
       Adding found map key value Full before after
   adds-none key value before after none absent = record {
-    was = ap (at_place (values_in found f n before)) absent;
+    was = ap (at_place (values_in found f before)) absent;
     full = inr none.taken;
     same = none.same;
   }
@@ -212,18 +209,19 @@ module _ {V : Type 0} (found : Val → V) (map : OrderedMap V) where
 
   module _ (key at : ℕ) (before mid after : List Val) (place : place_in f n before key ≡ Some at)
       (d : DropsKey map.map.cells key at before mid) (c : ClearsAll map.map key mid after) where
-    cleared : maps.Makes found map.map key None (Some (values_in found f n mid at)) mid after
+    cleared : maps.Makes found map.map key None (Some (values_in found f mid at)) mid after
     cleared =
-        takes-out found map.map key (values_in found f n mid at) mid mid after some
+        takes-out found map.map key (values_in found f mid at) mid mid after some
         (record {
-          is = sym (ap (at_place (values_in found f n mid)) (places-stay before mid d.others key ∙ place));
+          is = sym (ap (at_place (values_in found f mid)) (places-stay before mid d.others key ∙ place));
           same = refl;
         })
         c
 
     reach-stays : (h : ℕ) → h < n → reach_in f n after h ≡ reach_in f n mid h
     reach-stays h below =
-        ap (λ (v : Val). cond (nat_lt (reach_of v) n) (reach_of v) n) (c.others (f + h) (inl (omega (arith, below))))
+        ap (λ (v : Val). cond (nat_lt (reach_of v) n) (reach_of v) n)
+        (c.others (f + 3 * h) (λ at here e. omega (arith, e)))
 
     -- where keys are found in the end
     placed-nowhere : place_in f n after key ≡ None
@@ -234,7 +232,7 @@ module _ {V : Type 0} (found : Val → V) (map : OrderedMap V) where
         place-kept found f n some mid after k (λ q below. c.keys k q apart) reach-stays ∙ places-stay before mid d.others k
 
     root-after : root_in f n after ≡ root_in f n mid
-    root-after = ap low_of (c.others (f + 3 * n) (inr (omega arith)))
+    root-after = ap low_of (c.others (f + 3 * n) (λ at here e. omega (arith, e)))
 
     order-taken : IsOrdered f n before → IsOrdered f n after
     order-taken (inl bare) = absurd (none_not at (sym (bare.none key) ∙ place))
@@ -262,8 +260,8 @@ module _ {V : Type 0} (found : Val → V) (map : OrderedMap V) where
           r.rest,
           record {
             root = root-after ∙ r.is;
-            held = holds-by n (keys_in f n mid) (keys_in f n after) (forks_in f n mid) (forks_in f n after)
-                (λ p below. ap words_of (c.others (f + 3 * n + 1 + p) (inr (omega arith)))) r.rest
+            held = holds-by n (keys_in f mid) (keys_in f after) (forks_in f n mid) (forks_in f n after)
+                (λ p below. ap words_of (c.others (f + 3 * n + 1 + p) (λ at here e. omega (arith, e, here)))) r.rest
                 (λ p k h. (place-holds f n some after k p (stands p k h)).0) r.held;
             split = r.below;
             there = stands;
@@ -295,7 +293,7 @@ module _ {V : Type 0} (found : Val → V) (map : OrderedMap V) where
   takes-key key at before mid after d c place = taken key at before mid after place d c
 
   -- a key was found, its value read, and it was taken out
-  pub removes-some : (key at p : ℕ) (value : V) (before near mid after : List Val) → p ≡ f + 2 * n + at →
+  pub removes-some : (key at p : ℕ) (value : V) (before near mid after : List Val) → p ≡ f + 3 * at + 2 →
       Seeks map.map key (Some at) before near → Reads found p value near mid → Takes found map key at mid after →
       Removes found map key (Some value) before after
   removes-some key at p value before near mid after p_is s reads takes =
@@ -307,7 +305,7 @@ module _ {V : Type 0} (found : Val → V) (map : OrderedMap V) where
   pub removes-none : (key : ℕ) (before after : List Val) → Seeks map.map key None before after →
       Removes found map key None before after
   removes-none key before after s =
-      record { is = sym (ap (at_place (values_in found f n before)) s.is); same = s.same }
+      record { is = sym (ap (at_place (values_in found f before)) s.is); same = s.same }
 
   -- a key that was not there is added
   pub puts-absent : (key : ℕ) (value : V) (placed : Placed V) (before mid after : List Val) →
@@ -345,29 +343,29 @@ module _ {V : Type 0} (found : Val → V) (map : OrderedMap V) where
   pub looks-nowhere : (place : Option ℕ) (values : List Val) → place ≡ None → Looks found map place None values values
   looks-nowhere place values none = record { is = sym (ap (entry_at found map values) none); same = refl }
 
-  key_seen : (at o : ℕ) (held : Option ℕ) (before mid : List Val) → o ≡ f + n + at → Reads key_of o held before mid →
-      held ≡ key_at map.map before at
+  key_seen : (at o : ℕ) (held : Option ℕ) (before mid : List Val) → o ≡ f + 3 * at + 1 →
+      Reads key_of o held before mid → held ≡ key_at map.map before at
   key_seen at o held before mid o_is reads = reads.is ∙ ap (λ (x : ℕ). key_of (value_at before x)) o_is
 
   pub looks-keyless : (place : Option ℕ) (at o : ℕ) (held : Option ℕ) (before after : List Val) → place ≡ Some at →
-      o ≡ f + n + at → held ≡ None → Reads key_of o held before after → Looks found map place None before after
+      o ≡ f + 3 * at + 1 → held ≡ None → Reads key_of o held before after → Looks found map place None before after
   looks-keyless place at o held before after at_is o_is none reads = record {
     is = sym (ap (entry_at found map before) at_is
-        ∙ ap (λ (k : Option ℕ). entry_of found map k (values_in found f n before at))
+        ∙ ap (λ (k : Option ℕ). entry_of found map k (values_in found f before at))
         (sym (key_seen at o held before after o_is reads) ∙ none));
     same = reads.same;
   }
 
   pub looks-there : (place : Option ℕ) (at o p key : ℕ) (held : Option ℕ) (value : V) (before mid after : List Val) →
-      place ≡ Some at → o ≡ f + n + at → p ≡ f + 2 * n + at → held ≡ Some key → Reads key_of o held before mid →
+      place ≡ Some at → o ≡ f + 3 * at + 1 → p ≡ f + 3 * at + 2 → held ≡ Some key → Reads key_of o held before mid →
       Reads found p value mid after → Looks found map place (Some (key, value)) before after
   looks-there place at o p key held value before mid after at_is o_is p_is some_key reads sees =
-      let here : value ≡ values_in found f n before at =
+      let here : value ≡ values_in found f before at =
       sees.is ∙ ap (λ (xs : List Val). found (value_at xs p)) reads.same
       ∙ ap (λ (x : ℕ). found (value_at before x)) p_is in
       record {
         is = ap (λ (v : V). Some (key, v)) here
-            ∙ ap (λ (k : Option ℕ). entry_of found map k (values_in found f n before at))
+            ∙ ap (λ (k : Option ℕ). entry_of found map k (values_in found f before at))
             (sym some_key ∙ key_seen at o held before mid o_is reads)
             ∙ sym (ap (entry_at found map before) at_is);
         same = sees.same ∙ reads.same;

@@ -67,7 +67,7 @@ module _ (set : OrderedSet) where
       by New m = makes key (Some value) None before after m
       by (Instead had) m =
           absurd (none_not had
-          (sym (ap (at_place (values_in present_of set.map.map.cells.first set.map.map.cells.capacity before)) absent) ∙ m.was))
+          (sym (ap (at_place (values_in present_of set.map.map.cells.first before)) absent) ∙ m.was))
       by Full none = record { was = ap is_some none.was; full = none.full; same = none.same }
 
   -- a key is taken out

@@ -31,11 +31,11 @@ module _ (cells : Rows) where
 
   pub keys_stay : (before after : List Val) → KeepsButForks first n before after → (p : ℕ) → p < n →
       key_told cells after p ≡ key_told cells before p
-  keys_stay before after keeps p here = ap key_of (keeps (first + n + p) (inl (omega (arith, here))))
+  keys_stay before after keeps p here = ap key_of (keeps (first + 3 * p + 1) (inl (omega (arith, here))))
 
   pub keys_stay_one : (cell : ℕ) (before after : List Val) → KeepsButFork cells cell before after → (p : ℕ) → p < n →
       key_told cells after p ≡ key_told cells before p
-  keys_stay_one cell before after keeps p here = ap key_of (keeps (first + n + p) (λ e. omega (arith, e, here)))
+  keys_stay_one cell before after keeps p here = ap key_of (keeps (first + 3 * p + 1) (λ e. omega (arith, e, here)))
 
   pub words_stay : (cell : ℕ) (before after : List Val) → KeepsButFork cells cell before after → (c : ℕ) → (c ≡ cell → ⊥) →
       words_at cells after c ≡ words_at cells before c
@@ -419,7 +419,7 @@ module _ (cells : Rows) where
   key_here place before (fork p j q l r) is held = absurd (omega (arith, is))
 
   -- no other key stands there
-  pub beside_none : (key at cell place o : ℕ) (held : Option ℕ) (before after : List Val) → o ≡ first + n + place →
+  pub beside_none : (key at cell place o : ℕ) (held : Option ℕ) (before after : List Val) → o ≡ first + 3 * place + 1 →
       ((k : ℕ) → held ≡ Some k → k ≡ key) → Reads key_of o held before after →
       AddsBeside cells key at cell place (2 * place + 1) before after
   beside_none key at cell place o held before after o_is only reads under = record {
@@ -437,7 +437,7 @@ module _ (cells : Rows) where
           absent place d.0 (subst (λ (x : Trie). Has place d.0 x) (sym d.1) (refl, refl)) (only d.0 (read ∙ d.2))
 
   module _ (key at cell place o other level ours theirs tip_link_is here_link : ℕ) (made : Fork) (before mid after : List Val)
-      (o_is : o ≡ first + n + place) (inside : at < n) (within : cell < n) (high : level < 64)
+      (o_is : o ≡ first + 3 * place + 1) (inside : at < n) (within : cell < n) (high : level < 64)
       (differ : key / 2 ^ level ≡ other / 2 ^ level → ⊥) (same_above : key / 2 ^ (level + 1) ≡ other / 2 ^ (level + 1))
       (ours_is : ours ≡ key / 2 ^ level) (theirs_is : theirs ≡ other / 2 ^ level) (level_is : made.level ≡ level)
       (prefix_is : made.prefix ≡ ours / 2)

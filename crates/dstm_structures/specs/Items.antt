@@ -29,7 +29,7 @@ module _ {V : Type 0} (found : Val → V) (map : HashMap V) where
   pub record ListsPlace (at : ℕ) (old new : List (ℕ × V)) (before after : List Val) : Type 0 where
     pub key : Option ℕ
     pub stands : Stands map at key before after
-    pub is : new ≡ with_item old key (values_in found map.cells.first map.cells.capacity before at)
+    pub is : new ≡ with_item old key (values_in found map.cells.first before at)
 
   -- ---- what the calls do
 

@@ -20,18 +20,21 @@ key_of val = if val.high == 1 then Some val.low else None
 abbrev pub reach_of : Val → ℕ
 reach_of val = val.low
 
--- The cells of a map of n places: for each place one that tells at how many places from it on keys are looked for whose home
--- it is, then one for each that tells its key, and then one for each that holds the value.
+-- The cells of a map of n places, three of each place side by side: one that tells at how many places from it on keys
+-- are looked for whose home it is, one that tells its key, and one that holds the value.
+abbrev pub keys_in : (first : ℕ) → List Val → ℕ → Option ℕ
+keys_in first map at = key_of (value_at map (first + 3 * at + 1))
+
+abbrev pub values_in : {V : Type 0} → (Val → V) → (first : ℕ) → List Val → ℕ → V
+values_in found first map at = found (value_at map (first + 3 * at + 2))
+
 module _ (first n : ℕ) where
   abbrev pub reach_in : List Val → ℕ → ℕ
   reach_in map home =
-      if nat_lt (reach_of (value_at map (first + home))) n then reach_of (value_at map (first + home)) else n
-
-  abbrev pub keys_in : List Val → ℕ → Option ℕ
-  keys_in map at = key_of (value_at map (first + n + at))
+      if nat_lt (reach_of (value_at map (first + 3 * home))) n then reach_of (value_at map (first + 3 * home)) else n
 
   abbrev pub place_in : List Val → ℕ → Option ℕ
-  place_in map key = find n (keys_in map) key (home_in n key) 0 (reach_in map (home_in n key))
+  place_in map key = find n (keys_in first map) key (home_in n key) 0 (reach_in map (home_in n key))
 
   -- every object but those of the map keeps its value
   abbrev pub KeepsAround : List Val → List Val → Type 0
@@ -42,12 +45,9 @@ at_place values None = None
 at_place values (Some at) = Some (values at)
 
 module _ {V : Type 0} (found : Val → V) (first n : ℕ) where
-  abbrev pub values_in : List Val → ℕ → V
-  values_in map at = found (value_at map (first + 2 * n + at))
-
   -- the value of a key, if it is there
   abbrev pub item_in : List Val → ℕ → Option V
-  item_in map key = at_place (values_in map) (place_in first n map key)
+  item_in map key = at_place (values_in found first map) (place_in first n map key)
 
 -- the objects of a map are among so many
 abbrev pub end_of : {V : Type 0} → HashMap V → ℕ
@@ -60,7 +60,7 @@ module _ {V : Type 0} (map : HashMap V) where
   reach_at values home = reach_in map.cells.first map.cells.capacity values home
 
   abbrev pub key_at : List Val → ℕ → Option ℕ
-  key_at values at = keys_in map.cells.first map.cells.capacity values at
+  key_at values at = keys_in map.cells.first values at
 
   abbrev pub homes : ℕ → ℕ
   homes key = home_in map.cells.capacity key
@@ -96,20 +96,19 @@ module _ {V : Type 0} (map : HashMap V) where
   -- keys of this home are looked for at so many places at least
   pub record Extends (home far : ℕ) (before after : List Val) : Type 0 where
     pub is : reach_at after home ≡ (if nat_lt (reach_at before home) far then far else reach_at before home)
-    pub others : (o : ℕ) → o ≢ map.cells.first + home → value_at after o ≡ value_at before o
+    pub others : (o : ℕ) → o ≢ map.cells.first + 3 * home → value_at after o ≡ value_at before o
 
   -- this place does not hold the key any more, and no other key was set
   pub record Empties (at key : ℕ) (before after : List Val) : Type 0 where
     pub gone : is_key key (key_at after at) ≡ false
     pub keys : (k p : ℕ) → k ≢ key → is_key k (key_at after p) ≡ is_key k (key_at before p)
-    pub others : (o : ℕ) → o ≢ map.cells.first + map.cells.capacity + at → value_at after o ≡ value_at before o
+    pub others : (o : ℕ) → o ≢ map.cells.first + 3 * at + 1 → value_at after o ≡ value_at before o
 
   -- of the places at which a key is looked for, the first ones do not hold it any more, and no other key was set
   pub record Clears (key passed : ℕ) (before after : List Val) : Type 0 where
     pub gone : (j : ℕ) → j < passed → is_key key (key_at after (behind map.cells.capacity (homes key) j)) ≡ false
     pub keys : (k p : ℕ) → k ≢ key → is_key k (key_at after p) ≡ is_key k (key_at before p)
-    pub others : (o : ℕ) →
-        (o < map.cells.first + map.cells.capacity) ⊎ (map.cells.first + 2 * map.cells.capacity ≤ o) →
+    pub others : (o : ℕ) → ((at : ℕ) → at < map.cells.capacity → o ≢ map.cells.first + 3 * at + 1) →
         value_at after o ≡ value_at before o
 
   abbrev pub ClearsAll : (key : ℕ) → List Val → List Val → Type 0
@@ -175,8 +174,8 @@ module _ {V : Type 0} (found : Val → V) (map : HashMap V) where
   -- a key was put into a place with its value
   pub record Stores (at key : ℕ) (value : V) (before after : List Val) : Type 0 where
     pub key_is : key_at map after at ≡ Some key
-    pub value_is : values_in found map.cells.first map.cells.capacity after at ≡ value
-    pub others : (o : ℕ) → o ≢ map.cells.first + map.cells.capacity + at → o ≢ map.cells.first + 2 * map.cells.capacity + at →
+    pub value_is : values_in found map.cells.first after at ≡ value
+    pub others : (o : ℕ) → o ≢ map.cells.first + 3 * at + 1 → o ≢ map.cells.first + 3 * at + 2 →
         value_at after o ≡ value_at before o
 
   -- WHAT TAKING A KEY OUT DOES, by the answer

@@ -72,7 +72,7 @@ module _ {V : Type 0} (found : Val → V) (map : OrderedMap V) where
   abbrev pub entry_at : List Val → Option ℕ → Option (ℕ × V)
   entry_at values None = None
   entry_at values (Some at) =
-      entry_of (key_at map.map values at) (values_in found map.map.cells.first map.map.cells.capacity values at)
+      entry_of (key_at map.map values at) (values_in found map.map.cells.first values at)
 
   -- this is the first key, with its value; or there is none
   abbrev pub IsFirst : Option (ℕ × V) → List Val → Type 0

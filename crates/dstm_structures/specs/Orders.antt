@@ -87,7 +87,7 @@ module _ (first n : ℕ) where
   forks_in values at = words_of (value_at values (first + 3 * n + 1 + at))
 
   abbrev pub HoldsIn : List Val → Trie → Type 0
-  HoldsIn values t = Holds n (keys_in first n values) (forks_in values) t
+  HoldsIn values t = Holds n (keys_in first values) (forks_in values) t
 
   -- THE CELLS ARE IN ORDER BY THIS TRIE: its keys are those that are found, at the places where they are found
   pub record IsOrderedBy (t : Trie) (values : List Val) : Type 0 where

@@ -25,7 +25,7 @@ module _ (cells : Rows) where
   words_at values at = forks_in cells.first cells.capacity values at
 
   abbrev pub key_told : List Val → ℕ → Option ℕ
-  key_told values at = keys_in cells.first cells.capacity values at
+  key_told values at = keys_in cells.first values at
 
   -- every object but the cell of this fork keeps its value
   abbrev pub KeepsButFork : (cell : ℕ) → List Val → List Val → Type 0

@@ -14,9 +14,9 @@ pub struct Ring {
     ghost few: { first + 1 + capacity ≤ 524288 },
 }
 
-// The cells of a map: the number of the first one, and how many places there are. For each place there is a cell that tells
-// at how many places from it on keys are looked for whose home it is, then one for each that tells its key, and then one for
-// each that holds the value.
+// The cells of a map: the number of the first one, and how many places there are. Each place has three cells side by
+// side: one that tells at how many places from it on keys are looked for whose home it is, one that tells its key, and one
+// that holds the value.
 #[derive(Clone, Copy)]
 pub struct Rows {
     pub(crate) first: u32,
@@ -29,9 +29,9 @@ impl Rows {
     // The cell that tells the key of a place.
     pub(crate) fn key_at(self, at: u32) -> Cell<Option<u64>>
         requires { at < self.capacity }
-        ensures { result.object ≡ self.first + self.capacity + at }
+        ensures { result.object ≡ self.first + 3 * at + 1 }
     {
-        cell(self.first + self.capacity + at)
+        cell(self.first + 3 * at + 1)
     }
 }
 

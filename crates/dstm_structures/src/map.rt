@@ -301,17 +301,17 @@ impl<V: Word> HashMap<V> {
     // The cell that tells at how many places keys of this home are looked for.
     fn reach_at(self, home: u32) -> Cell<u64>
         requires { home < self.cells.capacity }
-        ensures { result.object ≡ self.cells.first + home }
+        ensures { result.object ≡ self.cells.first + 3 * home }
     {
-        cell(self.cells.first + home)
+        cell(self.cells.first + 3 * home)
     }
 
     // The cell that holds the value of a place.
     pub(crate) fn value_at(self, at: u32) -> Cell<V>
         requires { at < self.cells.capacity }
-        ensures { result.object ≡ self.cells.first + 2 * self.cells.capacity + at }
+        ensures { result.object ≡ self.cells.first + 3 * at + 2 }
     {
-        cell(self.cells.first + 2 * self.cells.capacity + at)
+        cell(self.cells.first + 3 * at + 2)
     }
 }
 
