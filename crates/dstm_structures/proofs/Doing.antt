@@ -20,10 +20,10 @@ pub record Writes {T : Type 0} (found : Val → T) (cell : ℕ) (had value : T) 
   pub was : had ≡ found (value_at before cell)
   pub after_is : after ≡ slice_set before cell kept
 
-module _ {L : Type 0} (holds : L → List Val → Type 0) (size : ℕ) where
-  pub does-read : {T : Type 0} (found : Val → T) (k n : Caller L) (cell : ℕ) (value : T) → Gets holds found k n cell value →
-      Does holds size (Reads found cell value) k n
-  does-read found k n cell value g = record {
+module _ {L : Type 0} {holds : L → List Val → Type 0} {size : ℕ} where
+  pub does-read : {T : Type 0} {found : Val → T} {k n : Caller L} {cell : ℕ} {value : T} →
+      Gets holds found k n cell value → Does holds size (Reads found cell value) k n
+  does-read {found = found} {cell = cell} g = record {
     narrows = g.finds.narrows;
     does = λ there map may. record {
       is = g.is ∙ ap found (sym (g.finds.value map may) ∙ ap (λ (xs : List Val). value_at xs cell) (g.finds.same map));
@@ -31,9 +31,9 @@ module _ {L : Type 0} (holds : L → List Val → Type 0) (size : ℕ) where
     };
   }
 
-  pub does-write : {T : Type 0} (found : Val → T) (k n : Caller L) (cell : ℕ) (had value : T) →
+  pub does-write : {T : Type 0} {found : Val → T} {k n : Caller L} {cell : ℕ} {had value : T} →
       Changes holds found k n cell had value → Does holds size (Writes found cell had value) k n
-  does-write found k n cell had value c = record {
+  does-write {found = found} c = record {
     narrows = c.exchanges.puts.narrows;
     does = λ there map may. record {
       kept = c.after;
@@ -44,24 +44,24 @@ module _ {L : Type 0} (holds : L → List Val → Type 0) (size : ℕ) where
   }
 
   -- no call was made
-  pub does-still : (E : List Val → List Val → Type 0) (k : Caller L) → ((values : List Val) → E values values) →
+  pub does-still : {E : List Val → List Val → Type 0} {k : Caller L} → ((values : List Val) → E values values) →
       Does holds size E k k
-  does-still E k same = record { narrows = λ map may. may; does = λ there map may. same (seen k map) }
+  does-still {k = k} same = record { narrows = λ map may. may; does = λ there map may. same (seen k map) }
 
   -- what is done where there are fewer objects
-  pub does-wider : (less : ℕ) → less ≤ size → (E : List Val → List Val → Type 0) (k n : Caller L) → Does holds less E k n →
-      Does holds size E k n
-  does-wider less most E k n done = record {
+  pub does-wider : {less : ℕ} {E : List Val → List Val → Type 0} {k n : Caller L} → less ≤ size →
+      Does holds less E k n → Does holds size E k n
+  does-wider most done = record {
     narrows = done.narrows;
     does = λ there map may. done.does (omega (arith, there, most)) map may;
   }
 
   -- one call after the other
-  pub does-then : (E F G : List Val → List Val → Type 0) (k m n : Caller L) → Keeps k m → Does holds size E k m →
+  pub does-then : {E F G : List Val → List Val → Type 0} {k m n : Caller L} → Keeps k m → Does holds size E k m →
       Does holds size F m n →
       ((before mid after : List Val) → size ≤ length before → E before mid → F mid after → G before after) →
       Does holds size G k n
-  does-then E F G k m n keeps first second both = record {
+  does-then {k = k} {m = m} {n = n} keeps first second both = record {
     narrows = λ map may. first.narrows map (second.narrows map may);
     does = λ there map may.
         let may_m = second.narrows map may in
@@ -69,11 +69,11 @@ module _ {L : Type 0} (holds : L → List Val → Type 0) (size : ℕ) where
         (first.does there map may_m) (second.does (omega (arith, there, same_objects k m keeps)) map may);
   }
 
-  pub does-thrice : (E F H G : List Val → List Val → Type 0) (k m l n : Caller L) → Keeps k m → Keeps m l →
+  pub does-thrice : {E F H G : List Val → List Val → Type 0} {k m l n : Caller L} → Keeps k m → Keeps m l →
       Does holds size E k m → Does holds size F m l → Does holds size H l n →
       ((before mid near after : List Val) → size ≤ length before → E before mid → F mid near → H near after →
       G before after) → Does holds size G k n
-  does-thrice E F H G k m l n keeps keeps_on first second third all = record {
+  does-thrice {k = k} {m = m} {l = l} {n = n} keeps keeps_on first second third all = record {
     narrows = λ map may. first.narrows map (second.narrows map (third.narrows map may));
     does = λ there map may.
         let may_l = third.narrows map may in
@@ -85,25 +85,23 @@ module _ {L : Type 0} (holds : L → List Val → Type 0) (size : ℕ) where
   }
 
   -- what was done, in other words
-  pub does-as : (E G : List Val → List Val → Type 0) (k n : Caller L) → Does holds size E k n →
+  pub does-as : {E G : List Val → List Val → Type 0} {k n : Caller L} → Does holds size E k n →
       ((before after : List Val) → size ≤ length before → E before after → G before after) → Does holds size G k n
-  does-as E G k n done same = record {
+  does-as {k = k} {n = n} done same = record {
     narrows = done.narrows;
     does = λ there map may.
         same (seen k map) (seen n map) (room holds k map size there (done.narrows map may)) (done.does there map may);
   }
 
   -- one call, and then a cell was looked up or set
-  pub then-read : {T : Type 0} (E G : List Val → List Val → Type 0) (found : Val → T) (k m n : Caller L) (cell : ℕ) (value : T) →
-      Keeps k m → Does holds size E k m → Gets holds found m n cell value →
+  pub then-read : {T : Type 0} {E G : List Val → List Val → Type 0} {found : Val → T} {k m n : Caller L} {cell : ℕ}
+      {value : T} → Keeps k m → Does holds size E k m → Gets holds found m n cell value →
       ((before mid after : List Val) → size ≤ length before → E before mid → Reads found cell value mid after →
       G before after) → Does holds size G k n
-  then-read E G found k m n cell value keeps first gets both =
-      does-then E (Reads found cell value) G k m n keeps first (does-read found m n cell value gets) both
+  then-read keeps first gets both = does-then keeps first (does-read gets) both
 
-  pub then-write : {T : Type 0} (E G : List Val → List Val → Type 0) (found : Val → T) (k m n : Caller L) (cell : ℕ)
-      (had value : T) → Keeps k m → Does holds size E k m → Changes holds found m n cell had value →
+  pub then-write : {T : Type 0} {E G : List Val → List Val → Type 0} {found : Val → T} {k m n : Caller L} {cell : ℕ}
+      {had value : T} → Keeps k m → Does holds size E k m → Changes holds found m n cell had value →
       ((before mid after : List Val) → size ≤ length before → E before mid → Writes found cell had value mid after →
       G before after) → Does holds size G k n
-  then-write E G found k m n cell had value keeps first changes both =
-      does-then E (Writes found cell had value) G k m n keeps first (does-write found m n cell had value changes) both
+  then-write keeps first changes both = does-then keeps first (does-write changes) both

@@ -45,19 +45,17 @@ module _ {L : Type 0} (holds : L → List Val → Type 0) (size : ℕ)
   pub lawful-once : {E : List Val → List Val → Type 0} {k n : Caller L} {first : ℕ} → first ≤ size → Does holds first E k n →
       IsUntouched k → ((law : L) (before after : List Val) → E before after → KeepsLaw law before after) →
       LeavesLawful holds n
-  lawful-once {E} {k} {n} {first} few done untouched keeps =
-      lawful-by (does-wider holds size first few E k n done) untouched keeps
+  lawful-once few done untouched keeps = lawful-by (does-wider few done) untouched keeps
 
   -- by one call and then another
   pub lawful-twice : {E F : List Val → List Val → Type 0} {k m n : Caller L} {first second : ℕ} → first ≤ size → second ≤ size →
       Keeps k m → Does holds first E k m → Does holds second F m n → IsUntouched k →
       ((law : L) (before mid after : List Val) → E before mid → F mid after → KeepsLaw law before after) →
       LeavesLawful holds n
-  lawful-twice {E} {F} {k} {m} {n} {first} {second} few fewer same one two untouched keeps =
+  lawful-twice few fewer same one two untouched keeps =
       lawful-by
-      (does-then holds size E F (λ before after. (law : L) → KeepsLaw law before after) k m n same
-      (does-wider holds size first few E k m one) (does-wider holds size second fewer F m n two)
-      (λ before mid after within e f law. keeps law before mid after e f))
+      (does-then {G = λ before after. (law : L) → KeepsLaw law before after} same (does-wider few one)
+      (does-wider fewer two) (λ before mid after within e f law. keeps law before mid after e f))
       untouched
       (λ law before after does. does law)
 
@@ -67,11 +65,10 @@ module _ {L : Type 0} (holds : L → List Val → Type 0) (size : ℕ)
       Does holds third H l n → IsUntouched k →
       ((law : L) (before mid near after : List Val) → E before mid → F mid near → H near after →
       KeepsLaw law before after) → LeavesLawful holds n
-  lawful-thrice {E} {F} {H} {k} {m} {l} {n} {first} {second} {third} few fewer fewest same same_on one two three untouched keeps =
+  lawful-thrice few fewer fewest same same_on one two three untouched keeps =
       lawful-by
-      (does-thrice holds size E F H (λ before after. (law : L) → KeepsLaw law before after) k m l n same same_on
-      (does-wider holds size first few E k m one) (does-wider holds size second fewer F m l two)
-      (does-wider holds size third fewest H l n three)
+      (does-thrice {G = λ before after. (law : L) → KeepsLaw law before after} same same_on (does-wider few one)
+      (does-wider fewer two) (does-wider fewest three)
       (λ before mid near after within e f h law. keeps law before mid near after e f h))
       untouched
       (λ law before after does. does law)
@@ -79,14 +76,12 @@ module _ {L : Type 0} (holds : L → List Val → Type 0) (size : ℕ)
 -- a cell was looked up
 pub did-read : {L T : Type 0} {holds : L → List Val → Type 0} {found : Val → T} {k n : Caller L} {cell : ℕ} {value : T} →
     (size : ℕ) → Gets holds found k n cell value → Does holds size (Reads found cell value) k n
-did-read {holds = holds} {found = found} {k = k} {n = n} {cell = cell} {value = value} size gets =
-    does-read holds size found k n cell value gets
+did-read size gets = does-read gets
 
 -- a cell was set
 pub did-write : {L T : Type 0} {holds : L → List Val → Type 0} {found : Val → T} {k n : Caller L} {cell : ℕ} {had value : T} →
     (size : ℕ) → Changes holds found k n cell had value → Does holds size (Writes found cell had value) k n
-did-write {holds = holds} {found = found} {k = k} {n = n} {cell = cell} {had = had} {value = value} size changes =
-    does-write holds size found k n cell had value changes
+did-write size changes = does-write changes
 
 -- ---- what a cell holds
 

@@ -1,7 +1,6 @@
-use Rattle.std.proofs.Common.{◌∙◌, ◌+◌, arith}
-use Rattle.dstm_structures.specs.Maps.{ClearsAll, Empties, Reaches, end_of}
+use Rattle.std.proofs.Common.{◌∙◌, arith}
 use Rattle.dstm_structures.proofs.Doing.{does-as, does-then}
-use Rattle.dstm_structures.proofs.Mapping.{Clearing, clear-end, clear-next, clear-start}
+use Rattle.dstm_structures.proofs.Mapping.{clear-end, clear-next, clear-start}
 use Rattle.dstm_structures.proofs.Noting.{notes_twice}
 use Rattle.dstm_structures.proofs.map.HashMap.clear.Goals as goal
 
@@ -9,9 +8,7 @@ pub loop-passed-init : goal.loop-passed-init
 loop-passed-init g c = (
   c.in_ok-reach.ensures.keeps,
   c.in_ok-reach.ensures.notes,
-  does-as g.L.Law.holds (end_of c.args.self) (Reaches c.args.self c.home-home.result c.in_ok-reach.reach)
-      (Clearing c.args.self c.args.key c.in_ok-reach.reach 0) c.args.tx.now.attempts.caller c.reach.new.tx.attempts.caller
-      c.in_ok-reach.ensures.reaches
+  does-as c.in_ok-reach.ensures.reaches
       (λ before after size. clear-start c.args.self c.args.key c.home-home.result c.in_ok-reach.reach before after
       c.home-home.ensures.home),
 )
@@ -26,10 +23,7 @@ pub loop-passed-preserved : goal.loop-passed-preserved
 loop-passed-preserved g c = (
   c.in_ok-empty.ensures.keeps ∙ c.loop-passed.invariant.0,
   notes_twice c.loop-passed.invariant.1 c.in_ok-empty.ensures.notes,
-  does-then g.L.Law.holds (end_of c.args.self) (Clearing c.args.self c.args.key c.in_ok-reach.reach c.loop-passed.passed)
-      (Empties c.args.self c.behind.result c.args.key)
-      (Clearing c.args.self c.args.key c.in_ok-reach.reach (c.loop-passed.passed + 1)) c.args.tx.now.attempts.caller
-      c.loop-passed.tx.attempts.caller c.empty.new.tx.attempts.caller c.loop-passed.invariant.0 c.loop-passed.invariant.2
+  does-then c.loop-passed.invariant.0 c.loop-passed.invariant.2
       c.in_ok-empty.ensures.empties
       (λ before mid after size. clear-next c.args.self c.args.key c.in_ok-reach.reach c.loop-passed.passed
       c.home-home.result c.behind.result before mid after c.home-home.ensures.home c.behind.ensures.behind
@@ -44,8 +38,6 @@ returns-clause-notes g c = c.loop-passed.invariant.1
 
 pub returns-clause-clears : goal.returns-clause-clears
 returns-clause-clears g c =
-    does-as g.L.Law.holds (end_of c.args.self) (Clearing c.args.self c.args.key c.in_ok-reach.reach c.loop-passed.passed)
-    (ClearsAll c.args.self c.args.key) c.args.tx.now.attempts.caller c.loop-passed.tx.attempts.caller
-    c.loop-passed.invariant.2
+    does-as c.loop-passed.invariant.2
     (λ before after size. clear-end c.args.self c.args.key c.in_ok-reach.reach c.loop-passed.passed before after
     (omega (arith, c.loop-passed-test.false)))

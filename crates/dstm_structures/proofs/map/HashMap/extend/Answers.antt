@@ -1,5 +1,4 @@
 use Rattle.std.proofs.Common.{arith}
-use Rattle.dstm_structures.specs.Maps.{Extends, Reaches, end_of, reach_of}
 use Rattle.dstm_structures.proofs.Doing.{then-write}
 use Rattle.dstm_structures.proofs.Mapping.{extend-more}
 use Rattle.dstm_structures.proofs.Noting.{notes_twice}
@@ -13,10 +12,7 @@ returns-clause-notes g c = notes_twice c.in_ok-reach.ensures.notes c.in_ok-set.e
 
 pub returns-clause-extends : goal.returns-clause-extends
 returns-clause-extends g c =
-    then-write g.L.Law.holds (end_of c.args.self) (Reaches c.args.self c.args.home c.in_ok-reach.reach)
-    (Extends c.args.self c.args.home c.args.far) reach_of c.args.tx.now.attempts.caller c.reach.new.tx.attempts.caller
-    c.set.new.self.attempts.caller c.reach_at.result.object c.in_ok-set.ensures.puts.0 c.from.result
-    c.in_ok-reach.ensures.keeps c.in_ok-reach.ensures.reaches c.in_ok-set.ensures.puts.1
+    then-write c.in_ok-reach.ensures.keeps c.in_ok-reach.ensures.reaches c.in_ok-set.ensures.puts.1
     (λ before mid after size. extend-more c.args.self c.args.home c.in_ok-reach.reach c.args.far c.reach_at.result.object
     c.in_ok-set.ensures.puts.0 c.from.result before mid after size c.requires.home c.requires.far c.reach_at.ensures
     c.from.ensures (omega (arith, c.if-reach-far.false)))

@@ -1,8 +1,6 @@
-use Rattle.std.proofs.Common.{◌∙◌, ◌+◌, arith, sym}
-use Rattle.std.specs.Prelude.{None, Some}
-use Rattle.dstm_structures.specs.Maps.{Reaches, Seeks, end_of, key_of}
+use Rattle.std.proofs.Common.{◌∙◌, arith, sym}
 use Rattle.dstm_structures.proofs.Doing.{does-as, then-read}
-use Rattle.dstm_structures.proofs.Mapping.{Seeking, seek-found, seek-next, seek-none, seek-start}
+use Rattle.dstm_structures.proofs.Mapping.{seek-found, seek-next, seek-none, seek-start}
 use Rattle.dstm_structures.proofs.Noting.{notes_twice}
 use Rattle.dstm_structures.proofs.map.HashMap.find.Goals as goal
 
@@ -10,9 +8,7 @@ pub loop-passed-init : goal.loop-passed-init
 loop-passed-init g c = (
   c.in_ok-reach.ensures.keeps,
   c.in_ok-reach.ensures.notes,
-  does-as g.L.Law.holds (end_of c.args.self) (Reaches c.args.self c.home-home.result c.in_ok-reach.reach)
-      (Seeking c.args.self c.args.key c.in_ok-reach.reach 0) c.args.tx.now.attempts.caller c.reach.new.tx.attempts.caller
-      c.in_ok-reach.ensures.reaches
+  does-as c.in_ok-reach.ensures.reaches
       (λ before after size. seek-start c.args.self c.args.key c.home-home.result c.in_ok-reach.reach before after
       c.home-home.ensures.home),
 )
@@ -31,10 +27,7 @@ returns-then-is_key-clause-notes g c = notes_twice c.loop-passed.invariant.1 c.i
 
 pub returns-then-is_key-clause-seeks : goal.returns-then-is_key-clause-seeks
 returns-then-is_key-clause-seeks g c =
-    then-read g.L.Law.holds (end_of c.args.self) (Seeking c.args.self c.args.key c.in_ok-reach.reach c.loop-passed.passed)
-    (Seeks c.args.self c.args.key (Some c.behind-at.result)) key_of c.args.tx.now.attempts.caller
-    c.loop-passed.tx.attempts.caller c.get.new.self.attempts.caller c.key_at.result.object c.in_ok-held.held
-    c.loop-passed.invariant.0 c.loop-passed.invariant.2 c.in_ok-held.ensures.gets
+    then-read c.loop-passed.invariant.0 c.loop-passed.invariant.2 c.in_ok-held.ensures.gets
     (λ before mid after size s reads. seek-found c.args.self c.args.key c.in_ok-reach.reach c.loop-passed.passed
     c.home-home.result c.behind-at.result c.key_at.result.object c.in_ok-held.held before mid after
     (omega (arith, c.loop-passed-test.true)) c.home-home.ensures.home c.behind-at.ensures.behind c.key_at.ensures s reads
@@ -44,10 +37,7 @@ pub loop-passed-preserved : goal.loop-passed-preserved
 loop-passed-preserved g c = (
   c.in_ok-held.ensures.keeps ∙ c.loop-passed.invariant.0,
   notes_twice c.loop-passed.invariant.1 c.in_ok-held.ensures.notes,
-  then-read g.L.Law.holds (end_of c.args.self) (Seeking c.args.self c.args.key c.in_ok-reach.reach c.loop-passed.passed)
-      (Seeking c.args.self c.args.key c.in_ok-reach.reach (c.loop-passed.passed + 1)) key_of c.args.tx.now.attempts.caller
-      c.loop-passed.tx.attempts.caller c.get.new.self.attempts.caller c.key_at.result.object c.in_ok-held.held
-      c.loop-passed.invariant.0 c.loop-passed.invariant.2 c.in_ok-held.ensures.gets
+  then-read c.loop-passed.invariant.0 c.loop-passed.invariant.2 c.in_ok-held.ensures.gets
       (λ before mid after size s reads. seek-next c.args.self c.args.key c.in_ok-reach.reach c.loop-passed.passed
       c.home-home.result c.behind-at.result c.key_at.result.object c.in_ok-held.held before mid after
       (omega (arith, c.loop-passed-test.true)) c.home-home.ensures.home c.behind-at.ensures.behind c.key_at.ensures s reads
@@ -62,8 +52,6 @@ returns-clause-notes g c = c.loop-passed.invariant.1
 
 pub returns-clause-seeks : goal.returns-clause-seeks
 returns-clause-seeks g c =
-    does-as g.L.Law.holds (end_of c.args.self) (Seeking c.args.self c.args.key c.in_ok-reach.reach c.loop-passed.passed)
-    (Seeks c.args.self c.args.key None) c.args.tx.now.attempts.caller c.loop-passed.tx.attempts.caller
-    c.loop-passed.invariant.2
+    does-as c.loop-passed.invariant.2
     (λ before after size. seek-none c.args.self c.args.key c.in_ok-reach.reach c.loop-passed.passed before after
     (omega (arith, c.loop-passed-test.false)))

@@ -1,8 +1,6 @@
-use Rattle.std.proofs.Common.{◌∙◌, ◌+◌, arith, sym}
-use Rattle.std.specs.Prelude.{None, Some}
-use Rattle.dstm_structures.specs.Maps.{Frees, Reaches, end_of, key_of}
+use Rattle.std.proofs.Common.{◌∙◌, arith, sym}
 use Rattle.dstm_structures.proofs.Doing.{does-as, then-read}
-use Rattle.dstm_structures.proofs.Mapping.{Passing, pass-found, pass-next, pass-none, pass-start}
+use Rattle.dstm_structures.proofs.Mapping.{pass-found, pass-next, pass-none, pass-start}
 use Rattle.dstm_structures.proofs.Noting.{notes_twice}
 use Rattle.dstm_structures.proofs.map.HashMap.free.Goals as goal
 
@@ -10,9 +8,7 @@ pub loop-passed-init : goal.loop-passed-init
 loop-passed-init g c = (
   c.in_ok-reach.ensures.keeps,
   c.in_ok-reach.ensures.notes,
-  does-as g.L.Law.holds (end_of c.args.self) (Reaches c.args.self c.args.home c.in_ok-reach.reach)
-      (Passing c.args.self c.args.home c.in_ok-reach.reach 0) c.args.tx.now.attempts.caller c.reach.new.tx.attempts.caller
-      c.in_ok-reach.ensures.reaches
+  does-as c.in_ok-reach.ensures.reaches
       (λ before after size. pass-start c.args.self c.args.home c.in_ok-reach.reach before after),
 )
 
@@ -30,10 +26,7 @@ returns-then-is_free-clause-notes g c = notes_twice c.loop-passed.invariant.1 c.
 
 pub returns-then-is_free-clause-frees : goal.returns-then-is_free-clause-frees
 returns-then-is_free-clause-frees g c =
-    then-read g.L.Law.holds (end_of c.args.self) (Passing c.args.self c.args.home c.in_ok-reach.reach c.loop-passed.passed)
-    (Frees c.args.self c.args.home (Some c.loop-passed.passed)) key_of c.args.tx.now.attempts.caller
-    c.loop-passed.tx.attempts.caller c.get.new.self.attempts.caller c.key_at.result.object c.in_ok-held.held
-    c.loop-passed.invariant.0 c.loop-passed.invariant.2 c.in_ok-held.ensures.gets
+    then-read c.loop-passed.invariant.0 c.loop-passed.invariant.2 c.in_ok-held.ensures.gets
     (λ before mid after size p reads. pass-found c.args.self c.args.home c.in_ok-reach.reach c.loop-passed.passed
     c.behind.result c.key_at.result.object c.in_ok-held.held _ before mid after c.behind.ensures.behind c.key_at.ensures
     (grind arith) p reads (sym c.is_free.ensures ∙ c.if-is_free.true))
@@ -42,10 +35,7 @@ pub loop-passed-preserved : goal.loop-passed-preserved
 loop-passed-preserved g c = (
   c.in_ok-held.ensures.keeps ∙ c.loop-passed.invariant.0,
   notes_twice c.loop-passed.invariant.1 c.in_ok-held.ensures.notes,
-  then-read g.L.Law.holds (end_of c.args.self) (Passing c.args.self c.args.home c.in_ok-reach.reach c.loop-passed.passed)
-      (Passing c.args.self c.args.home c.in_ok-reach.reach (c.loop-passed.passed + 1)) key_of c.args.tx.now.attempts.caller
-      c.loop-passed.tx.attempts.caller c.get.new.self.attempts.caller c.key_at.result.object c.in_ok-held.held
-      c.loop-passed.invariant.0 c.loop-passed.invariant.2 c.in_ok-held.ensures.gets
+  then-read c.loop-passed.invariant.0 c.loop-passed.invariant.2 c.in_ok-held.ensures.gets
       (λ before mid after size p reads. pass-next c.args.self c.args.home c.in_ok-reach.reach c.loop-passed.passed
       c.behind.result c.key_at.result.object c.in_ok-held.held _ before mid after c.behind.ensures.behind c.key_at.ensures
       (grind arith) p reads (sym c.is_free.ensures ∙ c.if-is_free.false)),
@@ -59,8 +49,6 @@ returns-clause-notes g c = c.loop-passed.invariant.1
 
 pub returns-clause-frees : goal.returns-clause-frees
 returns-clause-frees g c =
-    does-as g.L.Law.holds (end_of c.args.self) (Passing c.args.self c.args.home c.in_ok-reach.reach c.loop-passed.passed)
-    (Frees c.args.self c.args.home None) c.args.tx.now.attempts.caller c.loop-passed.tx.attempts.caller
-    c.loop-passed.invariant.2
+    does-as c.loop-passed.invariant.2
     (λ before after size. pass-none c.args.self c.args.home c.in_ok-reach.reach c.loop-passed.passed before after
     (omega (arith, c.loop-passed-test.false)))

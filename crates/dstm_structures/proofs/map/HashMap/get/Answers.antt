@@ -1,7 +1,7 @@
 use Rattle.std.proofs.Common.{ℕ, subst}
-use Rattle.std.specs.Prelude.{Option, Some}
+use Rattle.std.specs.Prelude.{Option}
 use Rattle.dstm_structures.specs.Effects.{Does}
-use Rattle.dstm_structures.specs.Maps.{Seeks, Tells, end_of}
+use Rattle.dstm_structures.specs.Maps.{Seeks, end_of}
 use Rattle.dstm_structures.proofs.Doing.{then-read}
 use Rattle.dstm_structures.proofs.Mapping.{tells-some}
 use Rattle.dstm_structures.proofs.Noting.{notes_twice}
@@ -15,10 +15,7 @@ returns-clause-notes g c = notes_twice c.in_ok-found.ensures.notes c.in_ok-value
 
 pub returns-clause-tells : goal.returns-clause-tells
 returns-clause-tells g c =
-    then-read g.L.Law.holds (end_of c.args.self) (Seeks c.args.self c.args.key (Some c.in-Some.at))
-    (Tells g.V.Word.found c.args.self c.args.key (Some c.in_ok-value.value)) g.V.Word.found c.args.tx.now.attempts.caller
-    c.find.new.tx.attempts.caller c.get.new.self.attempts.caller c.value_at.result.object c.in_ok-value.value
-    c.in_ok-found.ensures.keeps
+    then-read c.in_ok-found.ensures.keeps
     (subst (λ (place : Option ℕ). Does g.L.Law.holds (end_of c.args.self) (Seeks c.args.self c.args.key place)
     c.args.tx.now.attempts.caller c.find.new.tx.attempts.caller) c.in-Some.is c.in_ok-found.ensures.seeks)
     c.in_ok-value.ensures.gets

@@ -1,7 +1,7 @@
-use Rattle.std.proofs.Common.{ℕ, ◌+◌, ◌<◌, subst}
-use Rattle.std.specs.Prelude.{IfSome, None, Option, Some}
+use Rattle.std.proofs.Common.{ℕ, ◌<◌, subst}
+use Rattle.std.specs.Prelude.{IfSome, Option}
 use Rattle.dstm_structures.specs.Effects.{Does}
-use Rattle.dstm_structures.specs.Maps.{Extends, Frees, Inserts, Stores, end_of}
+use Rattle.dstm_structures.specs.Maps.{Frees, end_of}
 use Rattle.dstm_structures.proofs.Doing.{does-as, does-thrice}
 use Rattle.dstm_structures.proofs.Mapping.{inserts-new, inserts-none}
 use Rattle.dstm_structures.proofs.Noting.{notes_twice, notes_thrice}
@@ -9,9 +9,7 @@ use Rattle.dstm_structures.proofs.map.HashMap.insert.Goals as goal
 
 pub returns-in_default-clause-inserts : goal.returns-in_default-clause-inserts
 returns-in_default-clause-inserts g c =
-    does-as g.L.Law.holds (end_of c.args.self) (Frees c.args.self c.home-home.result None)
-    (Inserts g.V.Word.found c.args.self c.args.key c.args.value None) c.args.tx.now.attempts.caller
-    c.free.new.tx.attempts.caller
+    does-as
     (subst (λ (free : Option ℕ). Does g.L.Law.holds (end_of c.args.self) (Frees c.args.self c.home-home.result free)
     c.args.tx.now.attempts.caller c.free.new.tx.attempts.caller) c.in_default.is c.in_ok-free.ensures.frees)
     (λ before after size. inserts-none g.V.Word.found c.args.self c.args.key c.home-home.result c.args.value before after
@@ -30,12 +28,7 @@ returns-clause-notes g c =
 
 pub returns-clause-inserts : goal.returns-clause-inserts
 returns-clause-inserts g c =
-    does-thrice g.L.Law.holds (end_of c.args.self) (Frees c.args.self c.home-home.result (Some c.in-Some.passed))
-    (Stores g.V.Word.found c.args.self c.behind-at.result c.args.key c.args.value)
-    (Extends c.args.self c.home-home.result (c.in-Some.passed + 1))
-    (Inserts g.V.Word.found c.args.self c.args.key c.args.value (Some c.behind-at.result)) c.args.tx.now.attempts.caller
-    c.free.new.tx.attempts.caller c.store.new.tx.attempts.caller c.extend.new.tx.attempts.caller
-    c.in_ok-free.ensures.keeps c.in_ok-store.ensures.keeps
+    does-thrice c.in_ok-free.ensures.keeps c.in_ok-store.ensures.keeps
     (subst (λ (free : Option ℕ). Does g.L.Law.holds (end_of c.args.self) (Frees c.args.self c.home-home.result free)
     c.args.tx.now.attempts.caller c.free.new.tx.attempts.caller) c.in-Some.is c.in_ok-free.ensures.frees)
     c.in_ok-store.ensures.stores c.in_ok-extend.ensures.extends

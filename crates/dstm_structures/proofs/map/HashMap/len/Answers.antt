@@ -1,8 +1,6 @@
-use Rattle.std.proofs.Common.{◌∙◌, ◌+◌, arith, refl}
-use Rattle.dstm_structures.specs.Items.{Counts, Stands}
-use Rattle.dstm_structures.specs.Maps.{end_of}
+use Rattle.std.proofs.Common.{◌∙◌, arith, refl}
 use Rattle.dstm_structures.proofs.Doing.{does-as, does-still, does-then}
-use Rattle.dstm_structures.proofs.Items.{Counting, count-end, count-next, count-start}
+use Rattle.dstm_structures.proofs.Items.{count-end, count-next, count-start}
 use Rattle.dstm_structures.proofs.Noting.{notes_still, notes_twice}
 use Rattle.dstm_structures.proofs.map.HashMap.len.Goals as goal
 
@@ -11,8 +9,7 @@ loop-at-init g c = (
   omega arith,
   refl,
   notes_still,
-  does-still g.L.Law.holds (end_of c.args.self) (Counting g.V.Word.found c.args.self 0 0) c.args.tx.now.attempts.caller
-      (λ values. count-start g.V.Word.found c.args.self values),
+  does-still (λ values. count-start g.V.Word.found c.args.self values),
 )
 
 pub returns-in_err-key-clause-keeps : goal.returns-in_err-key-clause-keeps
@@ -26,10 +23,7 @@ loop-at-preserved g c = (
   omega (arith, c.loop-at.invariant.0, c.one_if-count.ensures.few),
   c.in_ok-key.ensures.keeps ∙ c.loop-at.invariant.1,
   notes_twice c.loop-at.invariant.2 c.in_ok-key.ensures.notes,
-  does-then g.L.Law.holds (end_of c.args.self) (Counting g.V.Word.found c.args.self c.loop-at.at c.loop-at.count)
-      (Stands c.args.self c.loop-at.at c.in_ok-key.key)
-      (Counting g.V.Word.found c.args.self (c.loop-at.at + 1) (c.loop-at.count + c.one_if-count.result))
-      c.args.tx.now.attempts.caller c.loop-at.tx.attempts.caller c.stands.new.tx.attempts.caller c.loop-at.invariant.1
+  does-then c.loop-at.invariant.1
       c.loop-at.invariant.3 c.in_ok-key.ensures.stands
       (λ before mid after size. count-next g.V.Word.found c.args.self c.loop-at.at c.loop-at.count c.one_if-count.result
       c.in_ok-key.key before mid after c.one_if-count.ensures.is),
@@ -43,8 +37,6 @@ returns-clause-notes g c = c.loop-at.invariant.2
 
 pub returns-clause-counts : goal.returns-clause-counts
 returns-clause-counts g c =
-    does-as g.L.Law.holds (end_of c.args.self) (Counting g.V.Word.found c.args.self c.loop-at.at c.loop-at.count)
-    (Counts g.V.Word.found c.args.self c.loop-at.count) c.args.tx.now.attempts.caller c.loop-at.tx.attempts.caller
-    c.loop-at.invariant.3
+    does-as c.loop-at.invariant.3
     (λ before after size. count-end g.V.Word.found c.args.self c.loop-at.at c.loop-at.count before after
     (omega (arith, c.loop-at-test.false)))

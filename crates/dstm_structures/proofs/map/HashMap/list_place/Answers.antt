@@ -1,5 +1,3 @@
-use Rattle.dstm_structures.specs.Items.{ListsPlace, Stands}
-use Rattle.dstm_structures.specs.Maps.{end_of}
 use Rattle.dstm_structures.proofs.Doing.{does-as, then-read}
 use Rattle.dstm_structures.proofs.Items.{place-none, place-some}
 use Rattle.dstm_structures.proofs.Noting.{notes_twice}
@@ -7,9 +5,7 @@ use Rattle.dstm_structures.proofs.map.HashMap.list_place.Goals as goal
 
 pub returns-in_default-clause-lists : goal.returns-in_default-clause-lists
 returns-in_default-clause-lists g c =
-    does-as g.L.Law.holds (end_of c.args.self) (Stands c.args.self c.args.at c.in_ok-found.found)
-    (ListsPlace g.V.Word.found c.args.self c.args.at c.args.items.now.items c.args.items.now.items)
-    c.args.tx.now.attempts.caller c.stands.new.tx.attempts.caller c.in_ok-found.ensures.stands
+    does-as c.in_ok-found.ensures.stands
     (λ before after size. place-none g.V.Word.found c.args.self c.args.at c.args.items.now.items c.in_ok-found.found before
     after c.in_default.is)
 
@@ -24,10 +20,7 @@ returns-clause-notes g c = notes_twice c.in_ok-found.ensures.notes c.in_ok-value
 
 pub returns-clause-lists : goal.returns-clause-lists
 returns-clause-lists g c =
-    then-read g.L.Law.holds (end_of c.args.self) (Stands c.args.self c.args.at c.in_ok-found.found)
-    (ListsPlace g.V.Word.found c.args.self c.args.at c.args.items.now.items c.push.new.self.items) g.V.Word.found
-    c.args.tx.now.attempts.caller c.stands.new.tx.attempts.caller c.get.new.self.attempts.caller c.value_at.result.object
-    c.in_ok-value.value c.in_ok-found.ensures.keeps c.in_ok-found.ensures.stands c.in_ok-value.ensures.gets
+    then-read c.in_ok-found.ensures.keeps c.in_ok-found.ensures.stands c.in_ok-value.ensures.gets
     (λ before mid after size. place-some g.V.Word.found c.args.self c.args.at c.in-Some.key c.value_at.result.object
     c.in_ok-value.value c.args.items.now.items c.push.new.self.items c.in_ok-found.found before mid after c.value_at.ensures
     c.in-Some.is c.in_ok-push.ensures.items)

@@ -11,5 +11,4 @@ returns-clause-adds g c =
     makes g.V.Word.found _ (length c.in_ok-cells.cells.items) made.kept c.args.memory.now.values.items
     c.cells.new.self.values.items made.behind (ap (λ (x : ℕ × ℕ). x.0) made.is) (ap (λ (x : ℕ × ℕ). x.1) made.is)
     (c.number.ensures ∙ ap (λ (x : Cell (ℕ × ℕ)). x.object) c.index.ensures
-    ∙ made.named 0 c.index.result.now (omega (arith, some, count)) ∙ omega arith)
-    count some
+    ∙ made.named 0 c.index.result.now (omega (arith, some, count)) ∙ omega arith) count some

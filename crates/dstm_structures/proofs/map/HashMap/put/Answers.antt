@@ -1,8 +1,7 @@
 use Rattle.std.proofs.Common.{ℕ, ◌<◌, subst}
-use Rattle.std.specs.Prelude.{IfSome, None, Option, Some}
+use Rattle.std.specs.Prelude.{IfSome, Option}
 use Rattle.dstm_structures.specs.Effects.{Does}
-use Rattle.dstm_structures.specs.Maps.{Inserts, Puts, Seeks, end_of}
-use Rattle.dstm_structures.specs.declared.map.Placed.TheVariants.{Instead}
+use Rattle.dstm_structures.specs.Maps.{Seeks, end_of}
 use Rattle.dstm_structures.proofs.Doing.{does-then, then-write}
 use Rattle.dstm_structures.proofs.Mapping.{puts-absent, puts-instead}
 use Rattle.dstm_structures.proofs.Noting.{notes_twice}
@@ -16,10 +15,7 @@ returns-in_default-clause-notes g c = notes_twice c.in_ok-found.ensures.notes c.
 
 pub returns-in_default-clause-puts : goal.returns-in_default-clause-puts
 returns-in_default-clause-puts g c =
-    does-then g.L.Law.holds (end_of c.args.self) (Seeks c.args.self c.args.key None)
-    (Inserts g.V.Word.found c.args.self c.args.key c.args.value c.in_ok-place.place)
-    (Puts g.V.Word.found c.args.self c.args.key c.args.value c.outcome.result) c.args.tx.now.attempts.caller
-    c.find.new.tx.attempts.caller c.insert.new.tx.attempts.caller c.in_ok-found.ensures.keeps
+    does-then c.in_ok-found.ensures.keeps
     (subst (λ (place : Option ℕ). Does g.L.Law.holds (end_of c.args.self) (Seeks c.args.self c.args.key place)
     c.args.tx.now.attempts.caller c.find.new.tx.attempts.caller) c.in_default.is c.in_ok-found.ensures.seeks)
     c.in_ok-place.ensures.inserts
@@ -34,10 +30,7 @@ returns-clause-notes g c = notes_twice c.in_ok-found.ensures.notes c.in_ok-had.e
 
 pub returns-clause-puts : goal.returns-clause-puts
 returns-clause-puts g c =
-    then-write g.L.Law.holds (end_of c.args.self) (Seeks c.args.self c.args.key (Some c.in-Some.at))
-    (Puts g.V.Word.found c.args.self c.args.key c.args.value (Instead c.in_ok-had.had)) g.V.Word.found
-    c.args.tx.now.attempts.caller c.find.new.tx.attempts.caller c.replace.new.self.attempts.caller c.value_at.result.object
-    c.in_ok-had.had c.args.value c.in_ok-found.ensures.keeps
+    then-write c.in_ok-found.ensures.keeps
     (subst (λ (place : Option ℕ). Does g.L.Law.holds (end_of c.args.self) (Seeks c.args.self c.args.key place)
     c.args.tx.now.attempts.caller c.find.new.tx.attempts.caller) c.in-Some.is c.in_ok-found.ensures.seeks)
     c.in_ok-had.ensures.puts

@@ -1,6 +1,4 @@
-use Rattle.std.proofs.Common.{◌∙◌, ℕ, ◌+◌, List, arith, refl, subst, sym}
-use Rattle.dstm_structures.specs.Items.{Lists, ListsPlace}
-use Rattle.dstm_structures.specs.Maps.{end_of}
+use Rattle.std.proofs.Common.{◌∙◌, ℕ, List, arith, refl, subst, sym}
 use Rattle.dstm_structures.proofs.Doing.{does-as, does-still, does-then}
 use Rattle.dstm_structures.proofs.Items.{Listing, list-end, list-next, list-start}
 use Rattle.dstm_structures.proofs.Noting.{notes_still, notes_twice}
@@ -10,9 +8,7 @@ pub loop-at-init : goal.loop-at-init
 loop-at-init g c = (
   refl,
   notes_still,
-  does-still g.L.Law.holds (end_of c.args.self) (Listing g.V.Word.found c.args.self 0 c.new-items.result.items)
-      c.args.tx.now.attempts.caller
-      (λ values. subst (λ (xs : List (ℕ × g.row.V.Denot)). Listing g.V.Word.found c.args.self 0 xs values values)
+  does-still (λ values. subst (λ (xs : List (ℕ × g.row.V.Denot)). Listing g.V.Word.found c.args.self 0 xs values values)
       (sym c.new-items.ensures.items) (list-start g.V.Word.found c.args.self values)),
 )
 
@@ -26,10 +22,7 @@ pub loop-at-preserved : goal.loop-at-preserved
 loop-at-preserved g c = (
   c.in_ok-list_place.ensures.keeps ∙ c.loop-at.invariant.0,
   notes_twice c.loop-at.invariant.1 c.in_ok-list_place.ensures.notes,
-  does-then g.L.Law.holds (end_of c.args.self) (Listing g.V.Word.found c.args.self c.loop-at.at c.loop-at.items.items)
-      (ListsPlace g.V.Word.found c.args.self c.loop-at.at c.loop-at.items.items c.list_place.new.items.items)
-      (Listing g.V.Word.found c.args.self (c.loop-at.at + 1) c.list_place.new.items.items) c.args.tx.now.attempts.caller
-      c.loop-at.tx.attempts.caller c.list_place.new.tx.attempts.caller c.loop-at.invariant.0 c.loop-at.invariant.2
+  does-then c.loop-at.invariant.0 c.loop-at.invariant.2
       c.in_ok-list_place.ensures.lists
       (λ before mid after size. list-next g.V.Word.found c.args.self c.loop-at.at c.loop-at.items.items
       c.list_place.new.items.items before mid after),
@@ -43,8 +36,6 @@ returns-clause-notes g c = c.loop-at.invariant.1
 
 pub returns-clause-lists : goal.returns-clause-lists
 returns-clause-lists g c =
-    does-as g.L.Law.holds (end_of c.args.self) (Listing g.V.Word.found c.args.self c.loop-at.at c.loop-at.items.items)
-    (Lists g.V.Word.found c.args.self c.loop-at.items.items) c.args.tx.now.attempts.caller c.loop-at.tx.attempts.caller
-    c.loop-at.invariant.2
+    does-as c.loop-at.invariant.2
     (λ before after size. list-end g.V.Word.found c.args.self c.loop-at.at c.loop-at.items.items before after
     (omega (arith, c.loop-at-test.false)))

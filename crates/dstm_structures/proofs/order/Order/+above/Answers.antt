@@ -1,39 +1,27 @@
 use Rattle.std.proofs.Common.{◌∙◌, ℕ, ◌/◌, ◌^◌, arith, refl, subst, sym}
-use Rattle.std.specs.Prelude.{None, Option, Some, false}
+use Rattle.std.specs.Prelude.{Option, false}
 use Rattle.dstm_structures.specs.Effects.{Does}
-use Rattle.dstm_structures.specs.Maps.{key_of}
-use Rattle.dstm_structures.specs.Orders.{Ends, Follows, IsNext, order_end}
-use Rattle.dstm_structures.specs.Tips.{LooksFork}
-use Rattle.dstm_structures.proofs.Doing.{Reads, does-as, does-read, does-still, does-then, does-thrice}
+use Rattle.dstm_structures.specs.Orders.{Follows, IsNext, order_end}
+use Rattle.dstm_structures.proofs.Doing.{does-as, does-read, does-still, does-then, does-thrice}
 use Rattle.dstm_structures.proofs.Noting.{notes_thrice, notes_twice}
 use Rattle.dstm_structures.proofs.Ordering.{finds-nothing, finds-stopped, follows-all, follows-later, follows-left, follows-no-tip, follows-none, follows-right, follows-tip}
 use Rattle.dstm_structures.proofs.order.Order.+above.Goals as goal
 
 pub returns-in-Nothing-clause-follows : goal.returns-in-Nothing-clause-follows
 returns-in-Nothing-clause-follows g t c =
-    does-still g.L.Law.holds (order_end c.args.self.cells)
-    (Follows c.args.self.cells c.args.key c.args.link c.args.under None) c.args.tx.now.attempts.caller
-    (λ values. finds-nothing c.args.self.cells (IsNext c.args.key) c.args.link c.args.under values
+    does-still (λ values. finds-nothing c.args.self.cells (IsNext c.args.key) c.args.link c.args.under values
     (sym c.in-Nothing.is ∙ c.link.ensures.is))
 
 pub returns-then-is_above-clause-follows : goal.returns-then-is_above-clause-follows
 returns-then-is_above-clause-follows g t c =
-    does-as g.L.Law.holds (order_end c.args.self.cells) (Reads key_of c.key_at.result.object c.in_ok-held-in-Tip.held)
-    (Follows c.args.self.cells c.args.key c.args.link c.args.under (Some c.in-Tip.at)) c.args.tx.now.attempts.caller
-    c.get.new.self.attempts.caller
-    (does-read g.L.Law.holds (order_end c.args.self.cells) key_of c.args.tx.now.attempts.caller
-    c.get.new.self.attempts.caller c.key_at.result.object c.in_ok-held-in-Tip.held c.in_ok-held-in-Tip.ensures.gets)
+    does-as (does-read c.in_ok-held-in-Tip.ensures.gets)
     (λ before after size reads. follows-tip c.args.self.cells c.args.key c.args.link c.args.under c.in-Tip.at
     c.key_at.result.object c.in_ok-held-in-Tip.held before after (sym c.in-Tip.is ∙ c.link.ensures.is) c.key_at.ensures reads
     (sym c.is_above.ensures ∙ c.if-is_above.true))
 
 pub returns-else-is_above-clause-follows : goal.returns-else-is_above-clause-follows
 returns-else-is_above-clause-follows g t c =
-    does-as g.L.Law.holds (order_end c.args.self.cells) (Reads key_of c.key_at.result.object c.in_ok-held-in-Tip.held)
-    (Follows c.args.self.cells c.args.key c.args.link c.args.under None) c.args.tx.now.attempts.caller
-    c.get.new.self.attempts.caller
-    (does-read g.L.Law.holds (order_end c.args.self.cells) key_of c.args.tx.now.attempts.caller
-    c.get.new.self.attempts.caller c.key_at.result.object c.in_ok-held-in-Tip.held c.in_ok-held-in-Tip.ensures.gets)
+    does-as (does-read c.in_ok-held-in-Tip.ensures.gets)
     (λ before after size reads. follows-no-tip c.args.self.cells c.args.key c.args.link c.args.under c.in-Tip.at
     c.key_at.result.object c.in_ok-held-in-Tip.held before after (sym c.in-Tip.is ∙ c.link.ensures.is) c.key_at.ensures reads
     (sym c.is_above.ensures ∙ c.if-is_above.false))
@@ -41,9 +29,7 @@ returns-else-is_above-clause-follows g t c =
 pub returns-then-fork-under-clause-follows : goal.returns-then-fork-under-clause-follows
 returns-then-fork-under-clause-follows g t c =
     let fork = c.in_ok-fork-in-Fork.fork in
-    does-as g.L.Law.holds (order_end c.args.self.cells) (LooksFork c.args.self.cells c.in-Fork.at fork)
-    (Follows c.args.self.cells c.args.key c.args.link c.args.under None) c.args.tx.now.attempts.caller
-    c.look_fork.new.tx.attempts.caller c.in_ok-fork-in-Fork.ensures.looks
+    does-as c.in_ok-fork-in-Fork.ensures.looks
     (λ before after size looks. finds-stopped c.args.self.cells c.args.link c.args.under c.in-Fork.at fork.level
     fork.prefix fork.left fork.right (sym c.in-Fork.is ∙ c.link.ensures.is) (IsNext c.args.key) before after
     (omega (arith, c.if-fork-under.true)) looks.tells looks.same)
@@ -59,11 +45,7 @@ returns-then-part-fork-clause-notes g t c =
 pub returns-then-part-fork-clause-follows : goal.returns-then-part-fork-clause-follows
 returns-then-part-fork-clause-follows g t c =
     let fork = c.in_ok-fork-in-Fork.fork in
-    does-then g.L.Law.holds (order_end c.args.self.cells) (LooksFork c.args.self.cells c.in-Fork.at fork)
-    (Ends c.args.self.cells false fork.left fork.level c.in_ok-first-in-Fork.first)
-    (Follows c.args.self.cells c.args.key c.args.link c.args.under c.in_ok-first-in-Fork.first) c.args.tx.now.attempts.caller
-    c.look_fork.new.tx.attempts.caller c.edge.new.tx.attempts.caller c.in_ok-fork-in-Fork.ensures.keeps
-    c.in_ok-fork-in-Fork.ensures.looks c.in_ok-first-in-Fork.ensures.ends
+    does-then c.in_ok-fork-in-Fork.ensures.keeps c.in_ok-fork-in-Fork.ensures.looks c.in_ok-first-in-Fork.ensures.ends
     (λ before mid after size looks done. follows-all c.args.self.cells c.args.link c.args.under c.in-Fork.at fork.level
     fork.prefix fork.left fork.right (sym c.in-Fork.is ∙ c.link.ensures.is) c.args.key (c.args.key / 2 ^ fork.level) refl before mid
     looks.tells looks.same c.in_ok-first-in-Fork.first after (omega (arith, c.if-part-fork.true)) done)
@@ -71,9 +53,7 @@ returns-then-part-fork-clause-follows g t c =
 pub returns-then-part-fork-2-clause-follows : goal.returns-then-part-fork-2-clause-follows
 returns-then-part-fork-2-clause-follows g t c =
     let fork = c.in_ok-fork-in-Fork.fork in
-    does-as g.L.Law.holds (order_end c.args.self.cells) (LooksFork c.args.self.cells c.in-Fork.at fork)
-    (Follows c.args.self.cells c.args.key c.args.link c.args.under None) c.args.tx.now.attempts.caller
-    c.look_fork.new.tx.attempts.caller c.in_ok-fork-in-Fork.ensures.looks
+    does-as c.in_ok-fork-in-Fork.ensures.looks
     (λ before after size looks. follows-none c.args.self.cells c.args.link c.args.under c.in-Fork.at fork.level
     fork.prefix fork.left fork.right (sym c.in-Fork.is ∙ c.link.ensures.is) c.args.key (c.args.key / 2 ^ fork.level) refl before after
     looks.tells looks.same (omega (arith, c.if-part-fork-2.true)))
@@ -93,10 +73,7 @@ returns-then-part-eq1-clause-notes g t c =
 pub returns-then-part-eq1-clause-follows : goal.returns-then-part-eq1-clause-follows
 returns-then-part-eq1-clause-follows g t c =
     let fork = c.in_ok-fork-in-Fork.fork in
-    does-then g.L.Law.holds (order_end c.args.self.cells) (LooksFork c.args.self.cells c.in-Fork.at fork)
-    (Follows c.args.self.cells c.args.key fork.right fork.level c.in_ok-right-in-Fork.right)
-    (Follows c.args.self.cells c.args.key c.args.link c.args.under c.in_ok-right-in-Fork.right) c.args.tx.now.attempts.caller
-    c.look_fork.new.tx.attempts.caller c.above.new.tx.attempts.caller c.in_ok-fork-in-Fork.ensures.keeps
+    does-then c.in_ok-fork-in-Fork.ensures.keeps
     c.in_ok-fork-in-Fork.ensures.looks c.in_ok-right-in-Fork.ensures.follows
     (λ before mid after size looks done. follows-right c.args.self.cells c.args.link c.args.under c.in-Fork.at fork.level
     fork.prefix fork.left fork.right (sym c.in-Fork.is ∙ c.link.ensures.is) c.args.key (c.args.key / 2 ^ fork.level) refl before mid
@@ -117,11 +94,7 @@ returns-in-Some-clause-notes g t c = notes_twice c.in_ok-fork-in-Fork.ensures.no
 pub returns-in-Some-clause-follows : goal.returns-in-Some-clause-follows
 returns-in-Some-clause-follows g t c =
     let fork = c.in_ok-fork-in-Fork.fork in
-    does-then g.L.Law.holds (order_end c.args.self.cells) (LooksFork c.args.self.cells c.in-Fork.at fork)
-    (Follows c.args.self.cells c.args.key fork.left fork.level (Some c.in-Some.at))
-    (Follows c.args.self.cells c.args.key c.args.link c.args.under (Some c.in-Some.at)) c.args.tx.now.attempts.caller
-    c.look_fork.new.tx.attempts.caller c.above-in-Fork.new.tx.attempts.caller c.in_ok-fork-in-Fork.ensures.keeps
-    c.in_ok-fork-in-Fork.ensures.looks
+    does-then c.in_ok-fork-in-Fork.ensures.keeps c.in_ok-fork-in-Fork.ensures.looks
     (subst (λ (answer : Option ℕ). Does g.L.Law.holds (order_end c.args.self.cells)
     (Follows c.args.self.cells c.args.key fork.left fork.level answer) c.look_fork.new.tx.attempts.caller
     c.above-in-Fork.new.tx.attempts.caller) c.in-Some.is c.in_ok-left-in-Fork.ensures.follows)
@@ -141,12 +114,7 @@ returns-in_ok-later-in-Fork-clause-notes g t c =
 pub returns-in_ok-later-in-Fork-clause-follows : goal.returns-in_ok-later-in-Fork-clause-follows
 returns-in_ok-later-in-Fork-clause-follows g t c =
     let fork = c.in_ok-fork-in-Fork.fork in
-    does-thrice g.L.Law.holds (order_end c.args.self.cells) (LooksFork c.args.self.cells c.in-Fork.at fork)
-    (Follows c.args.self.cells c.args.key fork.left fork.level None)
-    (Ends c.args.self.cells false fork.right fork.level c.in_ok-later-in-Fork.later)
-    (Follows c.args.self.cells c.args.key c.args.link c.args.under c.in_ok-later-in-Fork.later)
-    c.args.tx.now.attempts.caller c.look_fork.new.tx.attempts.caller c.above-in-Fork.new.tx.attempts.caller
-    c.edge-in-Fork.new.tx.attempts.caller c.in_ok-fork-in-Fork.ensures.keeps c.in_ok-left-in-Fork.ensures.keeps c.in_ok-fork-in-Fork.ensures.looks
+    does-thrice c.in_ok-fork-in-Fork.ensures.keeps c.in_ok-left-in-Fork.ensures.keeps c.in_ok-fork-in-Fork.ensures.looks
     (subst (λ (answer : Option ℕ). Does g.L.Law.holds (order_end c.args.self.cells)
     (Follows c.args.self.cells c.args.key fork.left fork.level answer) c.look_fork.new.tx.attempts.caller
     c.above-in-Fork.new.tx.attempts.caller) c.in_default.is c.in_ok-left-in-Fork.ensures.follows)

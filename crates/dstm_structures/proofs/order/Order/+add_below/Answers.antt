@@ -1,7 +1,7 @@
-use Rattle.std.proofs.Common.{ℕ, ◌+◌, ◌*◌, ◌/◌, ◌%◌, ◌^◌, ◌==◌, arith, refl, subst, sym}
+use Rattle.std.proofs.Common.{ℕ, ◌/◌, ◌%◌, ◌^◌, ◌==◌, arith, refl, subst, sym}
 use Rattle.dstm_structures.specs.Effects.{Does}
 use Rattle.dstm_structures.specs.Orders.{order_end}
-use Rattle.dstm_structures.specs.Tips.{AddsBeside, AddsOver, AddsTip, LooksFork, SetsSide}
+use Rattle.dstm_structures.specs.Tips.{AddsTip}
 use Rattle.dstm_structures.proofs.Doing.{does-as, does-then, does-thrice}
 use Rattle.dstm_structures.proofs.Noting.{notes_still, notes_thrice, notes_twice}
 use Rattle.dstm_structures.proofs.Tipping.{adds_over, adds_side, adds_tip}
@@ -14,10 +14,7 @@ pub returns-in_ok-now-in-Tip-clause-adds : goal.returns-in_ok-now-in-Tip-clause-
 returns-in_ok-now-in-Tip-clause-adds g t c =
     let added = c.args.added in
     let now = c.in_ok-now-in-Tip.now in
-    does-as g.L.Law.holds (order_end c.args.self.cells)
-    (AddsBeside c.args.self.cells added.key added.at added.cell c.in-Tip.place now)
-    (AddsTip c.args.self.cells added.key added.at added.cell c.args.link c.args.under now) c.args.tx.now.attempts.caller
-    c.add_beside.new.tx.attempts.caller c.in_ok-now-in-Tip.ensures.adds
+    does-as c.in_ok-now-in-Tip.ensures.adds
     (λ before after size adds. adds_tip c.args.self.cells added.key added.at added.cell c.args.link c.args.under c.in-Tip.place
     now before after c.in-Tip.ensures.is adds)
 
@@ -34,11 +31,7 @@ returns-then-part-fork-clause-adds g t c =
     let added = c.args.added in
     let fork = c.in_ok-fork-in-Fork.fork in
     let now = c.in_ok-now-in-Fork.now in
-    does-then g.L.Law.holds (order_end c.args.self.cells) (LooksFork c.args.self.cells c.in-Fork.over fork)
-    (AddsOver c.args.self.cells added.key added.at added.cell c.in-Fork.over fork now)
-    (AddsTip c.args.self.cells added.key added.at added.cell c.args.link c.args.under now) c.args.tx.now.attempts.caller
-    c.look_fork.new.tx.attempts.caller c.add_over.new.tx.attempts.caller c.in_ok-fork-in-Fork.ensures.keeps
-    c.in_ok-fork-in-Fork.ensures.looks c.in_ok-now-in-Fork.ensures.adds
+    does-then c.in_ok-fork-in-Fork.ensures.keeps c.in_ok-fork-in-Fork.ensures.looks c.in_ok-now-in-Fork.ensures.adds
     (λ before mid after size looks adds. adds_over c.args.self.cells added.key added.at added.cell c.args.link c.args.under
     c.in-Fork.over fork before mid after c.in-Fork.ensures.is looks now c.requires.under adds)
 
@@ -64,12 +57,7 @@ returns-in_ok-set_side-in-Fork-clause-adds g t c =
     subst (λ (link : ℕ). Does g.L.Law.holds (order_end c.args.self.cells)
     (AddsTip c.args.self.cells added.key added.at added.cell c.args.link c.args.under link) c.args.tx.now.attempts.caller
     c.set_side.new.tx.attempts.caller) (sym c.to_fork-in-Fork.ensures)
-    (does-thrice g.L.Law.holds (order_end c.args.self.cells) (LooksFork c.args.self.cells c.in-Fork.over fork)
-    (AddsTip c.args.self.cells added.key added.at added.cell c.side.result fork.level now)
-    (SetsSide c.args.self.cells c.in-Fork.over fork greater now)
-    (AddsTip c.args.self.cells added.key added.at added.cell c.args.link c.args.under (2 * c.in-Fork.over + 2))
-    c.args.tx.now.attempts.caller c.look_fork.new.tx.attempts.caller c.add_below.new.tx.attempts.caller
-    c.set_side.new.tx.attempts.caller c.in_ok-fork-in-Fork.ensures.keeps c.in_ok-now-in-Fork-2.ensures.keeps
+    (does-thrice c.in_ok-fork-in-Fork.ensures.keeps c.in_ok-now-in-Fork-2.ensures.keeps
     c.in_ok-fork-in-Fork.ensures.looks c.in_ok-now-in-Fork-2.ensures.adds c.in_ok-set_side-in-Fork.ensures.sets
     (λ before mid near after size looks adds sets. adds_side c.args.self.cells added.key added.at added.cell c.args.link
     c.args.under c.in-Fork.over fork before mid after c.in-Fork.ensures.is looks greater part now near

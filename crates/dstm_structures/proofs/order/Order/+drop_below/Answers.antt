@@ -1,7 +1,7 @@
-use Rattle.std.proofs.Common.{◌∙◌, ℕ, ◌+◌, ◌*◌, ◌/◌, ◌%◌, ◌^◌, ◌==◌, cond, refl, subst, sym}
+use Rattle.std.proofs.Common.{◌∙◌, ℕ, ◌/◌, ◌%◌, ◌^◌, ◌==◌, refl, subst, sym}
 use Rattle.dstm_structures.specs.Effects.{Does}
 use Rattle.dstm_structures.specs.Orders.{order_end}
-use Rattle.dstm_structures.specs.Tips.{DropsTip, FreesFork, LooksFork, SetsSide}
+use Rattle.dstm_structures.specs.Tips.{DropsTip}
 use Rattle.dstm_structures.proofs.Doing.{does-as, does-thrice}
 use Rattle.dstm_structures.proofs.Dropping.{drops_apart, drops_fork, drops_side, far_side}
 use Rattle.dstm_structures.proofs.Noting.{notes_still, notes_thrice, notes_twice}
@@ -17,9 +17,7 @@ pub returns-then-part-fork-clause-drops : goal.returns-then-part-fork-clause-dro
 returns-then-part-fork-clause-drops g t c =
     let fork = c.in_ok-fork-in-Fork.fork in
     let now = c.to_fork-then-part-fork.result in
-    does-as g.L.Law.holds (order_end c.args.self.cells) (LooksFork c.args.self.cells c.in-Fork.from fork)
-    (DropsTip c.args.self.cells c.args.key c.args.at c.args.link c.args.under now) c.args.tx.now.attempts.caller
-    c.look_fork.new.tx.attempts.caller c.in_ok-fork-in-Fork.ensures.looks
+    does-as c.in_ok-fork-in-Fork.ensures.looks
     (λ before after size looks. drops_apart c.args.self.cells c.args.key c.args.at c.args.link c.args.under c.in-Fork.from fork
     before after after c.in-Fork.ensures.is looks now (c.args.key / 2 ^ fork.level) refl c.if-part-fork.true)
 
@@ -45,11 +43,7 @@ returns-then-now-eq0-clause-drops g t c =
     subst (λ (link : ℕ). Does g.L.Law.holds (order_end cells)
     (DropsTip cells c.args.key c.args.at c.args.link c.args.under link) c.args.tx.now.attempts.caller
     c.clear_fork.new.tx.attempts.caller) (sym (c.side-then-now-eq0.ensures ∙ far_side part fork.right fork.left))
-    (does-thrice g.L.Law.holds (order_end cells) (LooksFork cells c.in-Fork.from fork)
-    (DropsTip cells c.args.key c.args.at c.side.result fork.level now) (FreesFork cells c.in-Fork.from)
-    (DropsTip cells c.args.key c.args.at c.args.link c.args.under (cond greater fork.left fork.right))
-    c.args.tx.now.attempts.caller c.look_fork.new.tx.attempts.caller c.drop_below.new.tx.attempts.caller
-    c.clear_fork.new.tx.attempts.caller c.in_ok-fork-in-Fork.ensures.keeps c.in_ok-now-in-Fork.ensures.keeps
+    (does-thrice c.in_ok-fork-in-Fork.ensures.keeps c.in_ok-now-in-Fork.ensures.keeps
     c.in_ok-fork-in-Fork.ensures.looks c.in_ok-now-in-Fork.ensures.drops c.in_ok-clear_fork-in-Fork.ensures.frees
     (λ before mid near after size looks drops frees. drops_fork cells c.args.key c.args.at c.args.link c.args.under
     c.in-Fork.from fork before mid after c.in-Fork.ensures.is looks greater part now near c.in-Fork.ensures.inside refl refl
@@ -74,11 +68,7 @@ returns-in_ok-set_side-in-Fork-clause-drops g t c =
     subst (λ (link : ℕ). Does g.L.Law.holds (order_end cells)
     (DropsTip cells c.args.key c.args.at c.args.link c.args.under link) c.args.tx.now.attempts.caller
     c.set_side.new.tx.attempts.caller) (sym c.to_fork-in-Fork.ensures)
-    (does-thrice g.L.Law.holds (order_end cells) (LooksFork cells c.in-Fork.from fork)
-    (DropsTip cells c.args.key c.args.at c.side.result fork.level now) (SetsSide cells c.in-Fork.from fork greater now)
-    (DropsTip cells c.args.key c.args.at c.args.link c.args.under (2 * c.in-Fork.from + 2))
-    c.args.tx.now.attempts.caller c.look_fork.new.tx.attempts.caller c.drop_below.new.tx.attempts.caller
-    c.set_side.new.tx.attempts.caller c.in_ok-fork-in-Fork.ensures.keeps c.in_ok-now-in-Fork.ensures.keeps
+    (does-thrice c.in_ok-fork-in-Fork.ensures.keeps c.in_ok-now-in-Fork.ensures.keeps
     c.in_ok-fork-in-Fork.ensures.looks c.in_ok-now-in-Fork.ensures.drops c.in_ok-set_side-in-Fork.ensures.sets
     (λ before mid near after size looks drops sets. drops_side cells c.args.key c.args.at c.args.link c.args.under
     c.in-Fork.from fork before mid after c.in-Fork.ensures.is looks greater part now near c.in-Fork.ensures.inside refl refl

@@ -1,8 +1,7 @@
 use Rattle.std.proofs.Common.{List, arith, subst}
 use Rattle.dstm_model.specs.declared.value.Val.{Val}
-use Rattle.dstm_structures.specs.Orders.{low_of, order_end}
-use Rattle.dstm_structures.specs.Tips.{AddsKey, AddsTip, SetsRoot}
-use Rattle.dstm_structures.proofs.Doing.{Reads, does-read, does-thrice}
+use Rattle.dstm_structures.specs.Tips.{AddsTip}
+use Rattle.dstm_structures.proofs.Doing.{does-read, does-thrice}
 use Rattle.dstm_structures.proofs.Dropping.{adds_key}
 use Rattle.dstm_structures.proofs.Noting.{notes_thrice, notes_twice}
 use Rattle.dstm_structures.proofs.Powers.{none_above}
@@ -24,14 +23,8 @@ returns-clause-adds g c =
     let cells = c.args.self.cells in
     let root = c.in_ok-root.root in
     let now = c.in_ok-now.now in
-    does-thrice g.L.Law.holds (order_end cells) (Reads low_of c.root_at.result.object root)
-    (AddsTip cells c.args.key c.args.at c.args.cell root 64 now) (SetsRoot cells root now) (AddsKey cells c.args.key c.args.at c.args.cell)
-    c.args.tx.now.attempts.caller c.get.new.self.attempts.caller c.add_below.new.tx.attempts.caller
-    c.set_root.new.tx.attempts.caller c.in_ok-root.ensures.keeps c.in_ok-now.ensures.keeps
-    (does-read g.L.Law.holds (order_end cells) low_of c.args.tx.now.attempts.caller c.get.new.self.attempts.caller
-    c.root_at.result.object root c.in_ok-root.ensures.gets)
-    c.in_ok-now.ensures.adds c.in_ok-set_root.ensures.sets
-    (λ before mid near after size reads adds sets.
+    does-thrice c.in_ok-root.ensures.keeps c.in_ok-now.ensures.keeps (does-read c.in_ok-root.ensures.gets)
+    c.in_ok-now.ensures.adds c.in_ok-set_root.ensures.sets (λ before mid near after size reads adds sets.
     adds_key cells c.root_at.result.object root now before mid near after c.root_at.ensures reads
     (subst (λ (xs : List Val). AddsTip cells c.args.key c.args.at c.args.cell root 64 now xs near) reads.same adds).others sets
     c.args.key c.args.at c.args.cell (none_above c.args.key 64 (omega arith) c.ranges.key.fits)

@@ -1,9 +1,9 @@
-use Rattle.std.proofs.Common.{◌∙◌, ℕ, ◌+◌, ◌*◌, ◌/◌, ◌^◌, refl, subst, sym}
+use Rattle.std.proofs.Common.{◌∙◌, ℕ, ◌/◌, ◌^◌, refl, subst, sym}
 use Rattle.std.specs.Prelude.{Option}
 use Rattle.dstm_structures.specs.Effects.{Does}
 use Rattle.dstm_structures.specs.Maps.{key_of}
 use Rattle.dstm_structures.specs.Orders.{order_end}
-use Rattle.dstm_structures.specs.Tips.{AddsBeside, SetsFork}
+use Rattle.dstm_structures.specs.Tips.{AddsBeside}
 use Rattle.dstm_structures.proofs.Doing.{Reads, does-as, does-read, does-then}
 use Rattle.dstm_structures.proofs.Noting.{notes_twice}
 use Rattle.dstm_structures.proofs.Places.{some_is}
@@ -15,12 +15,8 @@ returns-then-other-added-clause-adds g c =
     let added = c.args.added in
     subst (λ (now : ℕ). Does g.L.Law.holds (order_end c.args.self.cells)
     (AddsBeside c.args.self.cells added.key added.at added.cell c.args.place now) c.args.tx.now.attempts.caller
-    c.get.new.self.attempts.caller) (sym c.to_tip-then-other-added.ensures)
-    (does-as g.L.Law.holds (order_end c.args.self.cells) (Reads key_of c.key_at.result.object c.in_ok-held.held)
-    (AddsBeside c.args.self.cells added.key added.at added.cell c.args.place (2 * c.args.place + 1))
-    c.args.tx.now.attempts.caller c.get.new.self.attempts.caller
-    (does-read g.L.Law.holds (order_end c.args.self.cells) key_of c.args.tx.now.attempts.caller
-    c.get.new.self.attempts.caller c.key_at.result.object c.in_ok-held.held c.in_ok-held.ensures.gets)
+    c.get.new.self.attempts.caller) (sym c.to_tip-then-other-added.ensures) (does-as
+    (does-read c.in_ok-held.ensures.gets)
     (λ before after size reads. beside_none c.args.self.cells added.key added.at added.cell c.args.place
     c.key_at.result.object c.in_ok-held.held before after c.key_at.ensures
     (λ k e. some_is k c.in-Some.other (sym e ∙ c.in-Some.is) ∙ c.if-other-added.true) reads))
@@ -37,15 +33,8 @@ returns-clause-adds g c =
     let level = c.parting-level.result in
     subst (λ (now : ℕ). Does g.L.Law.holds (order_end c.args.self.cells)
     (AddsBeside c.args.self.cells added.key added.at added.cell c.args.place now) c.args.tx.now.attempts.caller
-    c.set_fork.new.tx.attempts.caller) (sym c.to_fork.ensures)
-    (does-then g.L.Law.holds (order_end c.args.self.cells) (Reads key_of c.key_at.result.object c.in_ok-held.held)
-    (SetsFork c.args.self.cells added.cell c.parted-fork.result)
-    (AddsBeside c.args.self.cells added.key added.at added.cell c.args.place (2 * added.cell + 2))
-    c.args.tx.now.attempts.caller c.get.new.self.attempts.caller c.set_fork.new.tx.attempts.caller
-    c.in_ok-held.ensures.keeps
-    (does-read g.L.Law.holds (order_end c.args.self.cells) key_of c.args.tx.now.attempts.caller
-    c.get.new.self.attempts.caller c.key_at.result.object c.in_ok-held.held c.in_ok-held.ensures.gets)
-    c.in_ok-set_fork.ensures.sets
+    c.set_fork.new.tx.attempts.caller) (sym c.to_fork.ensures) (does-then c.in_ok-held.ensures.keeps
+    (does-read c.in_ok-held.ensures.gets) c.in_ok-set_fork.ensures.sets
     (λ before mid after size reads sets. beside_set c.args.self.cells added.key added.at added.cell c.args.place
     c.key_at.result.object c.in-Some.other level (added.key / 2 ^ level) (c.in-Some.other / 2 ^ level) c.to_tip-2.result
     c.to_tip-3.result c.parted-fork.result before mid after c.key_at.ensures c.requires.at c.requires.cell

@@ -1,7 +1,7 @@
-use Rattle.std.proofs.Common.{ℕ, ◌+◌, ◌*◌, ◌/◌, ◌^◌, arith, refl, subst, sym}
+use Rattle.std.proofs.Common.{ℕ, ◌/◌, ◌^◌, arith, refl, subst, sym}
 use Rattle.dstm_structures.specs.Effects.{Does}
 use Rattle.dstm_structures.specs.Orders.{order_end}
-use Rattle.dstm_structures.specs.Tips.{AddsOver, SetsFork}
+use Rattle.dstm_structures.specs.Tips.{AddsOver}
 use Rattle.dstm_structures.proofs.Doing.{does-as, does-still}
 use Rattle.dstm_structures.proofs.Tipping.{over_high, over_set}
 use Rattle.dstm_structures.proofs.order.Order.add_over.Goals as goal
@@ -11,10 +11,7 @@ returns-then-level-ge64-clause-adds g c =
     let added = c.args.added in
     subst (λ (now : ℕ). Does g.L.Law.holds (order_end c.args.self.cells)
     (AddsOver c.args.self.cells added.key added.at added.cell c.args.over c.args.fork now) c.args.tx.now.attempts.caller
-    c.args.tx.now.attempts.caller) (sym c.to_fork.ensures)
-    (does-still g.L.Law.holds (order_end c.args.self.cells)
-    (AddsOver c.args.self.cells added.key added.at added.cell c.args.over c.args.fork (2 * c.args.over + 2))
-    c.args.tx.now.attempts.caller
+    c.args.tx.now.attempts.caller) (sym c.to_fork.ensures) (does-still
     (λ values. over_high c.args.self.cells added.key added.at added.cell c.args.over c.parting-higher.result
     (added.key / 2 ^ c.args.fork.level / 2) c.args.fork values refl c.parting-higher.ensures.differ
     (omega (arith, c.if-level-ge64.true))))
@@ -26,10 +23,7 @@ returns-clause-adds g c =
     let higher_by = c.parting-higher.result in
     subst (λ (now : ℕ). Does g.L.Law.holds (order_end c.args.self.cells)
     (AddsOver c.args.self.cells added.key added.at added.cell c.args.over c.args.fork now) c.args.tx.now.attempts.caller
-    c.set_fork.new.tx.attempts.caller) (sym c.to_fork-3.ensures)
-    (does-as g.L.Law.holds (order_end c.args.self.cells) (SetsFork c.args.self.cells added.cell c.parted-parts.result)
-    (AddsOver c.args.self.cells added.key added.at added.cell c.args.over c.args.fork (2 * added.cell + 2))
-    c.args.tx.now.attempts.caller c.set_fork.new.tx.attempts.caller c.in_ok-set_fork.ensures.sets
+    c.set_fork.new.tx.attempts.caller) (sym c.to_fork-3.ensures) (does-as c.in_ok-set_fork.ensures.sets
     (λ before after size sets. over_set c.args.self.cells added.key added.at added.cell c.args.over higher_by ours c.args.fork
     before refl c.parting-higher.ensures.differ (ours / 2 ^ higher_by) (c.args.fork.prefix / 2 ^ higher_by) c.to_tip.result
     c.to_fork-2.result c.parted-parts.result after c.requires.at c.requires.cell c.parting-higher.ensures.same refl refl

@@ -1,8 +1,7 @@
 use Rattle.std.proofs.Common.{List, subst}
 use Rattle.dstm_model.specs.declared.value.Val.{Val}
-use Rattle.dstm_structures.specs.Orders.{low_of, order_end}
-use Rattle.dstm_structures.specs.Tips.{DropsKey, DropsTip, SetsRoot}
-use Rattle.dstm_structures.proofs.Doing.{Reads, does-read, does-thrice}
+use Rattle.dstm_structures.specs.Tips.{DropsTip}
+use Rattle.dstm_structures.proofs.Doing.{does-read, does-thrice}
 use Rattle.dstm_structures.proofs.Dropping.{drops_key}
 use Rattle.dstm_structures.proofs.Noting.{notes_thrice, notes_twice}
 use Rattle.dstm_structures.proofs.order.Order.drop_key.Goals as goal
@@ -23,14 +22,8 @@ returns-clause-drops g c =
     let cells = c.args.self.cells in
     let root = c.in_ok-root.root in
     let now = c.in_ok-now.now in
-    does-thrice g.L.Law.holds (order_end cells) (Reads low_of c.root_at.result.object root)
-    (DropsTip cells c.args.key c.args.at root 64 now) (SetsRoot cells root now) (DropsKey cells c.args.key c.args.at)
-    c.args.tx.now.attempts.caller c.get.new.self.attempts.caller c.drop_below.new.tx.attempts.caller
-    c.set_root.new.tx.attempts.caller c.in_ok-root.ensures.keeps c.in_ok-now.ensures.keeps
-    (does-read g.L.Law.holds (order_end cells) low_of c.args.tx.now.attempts.caller c.get.new.self.attempts.caller
-    c.root_at.result.object root c.in_ok-root.ensures.gets)
-    c.in_ok-now.ensures.drops c.in_ok-set_root.ensures.sets
-    (λ before mid near after size reads drops sets.
+    does-thrice c.in_ok-root.ensures.keeps c.in_ok-now.ensures.keeps (does-read c.in_ok-root.ensures.gets)
+    c.in_ok-now.ensures.drops c.in_ok-set_root.ensures.sets (λ before mid near after size reads drops sets.
     drops_key cells c.root_at.result.object root now before mid near after c.root_at.ensures reads
     (subst (λ (xs : List Val). DropsTip cells c.args.key c.args.at root 64 now xs near) reads.same drops).others sets
     c.args.key c.args.at

@@ -1,5 +1,5 @@
-use Rattle.dstm_structures.specs.Orders.{Ends, EndsAll, IsEdge, low_of, order_end}
-use Rattle.dstm_structures.proofs.Doing.{Reads, does-read, does-then}
+use Rattle.dstm_structures.specs.Orders.{IsEdge}
+use Rattle.dstm_structures.proofs.Doing.{does-read, does-then}
 use Rattle.dstm_structures.proofs.Noting.{notes_twice}
 use Rattle.dstm_structures.proofs.Ordering.{finds-all}
 use Rattle.dstm_structures.proofs.order.Order.end.Goals as goal
@@ -12,12 +12,6 @@ returns-clause-notes g c = notes_twice c.in_ok-root.ensures.notes c.in_ok-place.
 
 pub returns-clause-ends : goal.returns-clause-ends
 returns-clause-ends g c =
-    does-then g.L.Law.holds (order_end c.args.self.cells) (Reads low_of c.root_at.result.object c.in_ok-root.root)
-    (Ends c.args.self.cells c.args.greatest c.in_ok-root.root 64 c.in_ok-place.place)
-    (EndsAll c.args.self.cells c.args.greatest c.in_ok-place.place) c.args.tx.now.attempts.caller c.get.new.self.attempts.caller
-    c.edge.new.tx.attempts.caller c.in_ok-root.ensures.keeps
-    (does-read g.L.Law.holds (order_end c.args.self.cells) low_of c.args.tx.now.attempts.caller
-    c.get.new.self.attempts.caller c.root_at.result.object c.in_ok-root.root c.in_ok-root.ensures.gets)
-    c.in_ok-place.ensures.ends
+    does-then c.in_ok-root.ensures.keeps (does-read c.in_ok-root.ensures.gets) c.in_ok-place.ensures.ends
     (λ before mid after size. finds-all c.args.self.cells (IsEdge c.args.greatest) c.root_at.result.object c.in_ok-root.root
     c.in_ok-place.place before mid after c.root_at.ensures)

@@ -1,18 +1,14 @@
-use Rattle.std.proofs.Common.{◌∙◌, ◌+◌, arith, refl}
-use Rattle.std.specs.Prelude.{None, Some}
-use Rattle.dstm_structures.specs.Orders.{order_end, words_of}
-use Rattle.dstm_structures.specs.Tips.{SeeksFork}
+use Rattle.std.proofs.Common.{◌∙◌, arith, refl}
 use Rattle.dstm_structures.proofs.Doing.{does-as, does-still, then-read}
 use Rattle.dstm_structures.proofs.Noting.{notes_still, notes_twice}
-use Rattle.dstm_structures.proofs.Tipping.{PassingForks, fork_found, fork_passed, forks_end, forks_start}
+use Rattle.dstm_structures.proofs.Tipping.{fork_found, fork_passed, forks_end, forks_start}
 use Rattle.dstm_structures.proofs.order.Order.free_fork.Goals as goal
 
 pub loop-passed-init : goal.loop-passed-init
 loop-passed-init g c = (
   refl,
   notes_still,
-  does-still g.L.Law.holds (order_end c.args.self.cells) (PassingForks c.args.self.cells c.args.home 0) c.args.tx.now.attempts.caller
-      (λ values. forks_start c.args.self.cells c.args.home values),
+  does-still (λ values. forks_start c.args.self.cells c.args.home values),
 )
 
 pub returns-in_err-held-clause-keeps : goal.returns-in_err-held-clause-keeps
@@ -29,10 +25,7 @@ returns-then-held-eq0-clause-notes g c = notes_twice c.loop-passed.invariant.1 c
 
 pub returns-then-held-eq0-clause-seeks : goal.returns-then-held-eq0-clause-seeks
 returns-then-held-eq0-clause-seeks g c =
-    then-read g.L.Law.holds (order_end c.args.self.cells) (PassingForks c.args.self.cells c.args.home c.loop-passed.passed)
-    (SeeksFork c.args.self.cells (Some c.behind-cell.result)) words_of c.args.tx.now.attempts.caller
-    c.loop-passed.tx.attempts.caller c.get.new.self.attempts.caller c.fork_at.result.object c.in_ok-held.held
-    c.loop-passed.invariant.0 c.loop-passed.invariant.2 c.in_ok-held.ensures.gets
+    then-read c.loop-passed.invariant.0 c.loop-passed.invariant.2 c.in_ok-held.ensures.gets
     (λ before mid after size p reads. fork_found c.args.self.cells c.args.home c.loop-passed.passed
     c.behind-cell.result c.fork_at.result.object c.in_ok-held.held before mid after
     c.behind-cell.ensures.behind c.fork_at.ensures p reads c.if-held-eq0.true)
@@ -41,10 +34,7 @@ pub loop-passed-preserved : goal.loop-passed-preserved
 loop-passed-preserved g c = (
   c.in_ok-held.ensures.keeps ∙ c.loop-passed.invariant.0,
   notes_twice c.loop-passed.invariant.1 c.in_ok-held.ensures.notes,
-  then-read g.L.Law.holds (order_end c.args.self.cells) (PassingForks c.args.self.cells c.args.home c.loop-passed.passed)
-      (PassingForks c.args.self.cells c.args.home (c.loop-passed.passed + 1)) words_of c.args.tx.now.attempts.caller
-      c.loop-passed.tx.attempts.caller c.get.new.self.attempts.caller c.fork_at.result.object c.in_ok-held.held
-      c.loop-passed.invariant.0 c.loop-passed.invariant.2 c.in_ok-held.ensures.gets
+  then-read c.loop-passed.invariant.0 c.loop-passed.invariant.2 c.in_ok-held.ensures.gets
       (λ before mid after size p reads. fork_passed c.args.self.cells c.args.home c.loop-passed.passed
       c.behind-cell.result c.fork_at.result.object c.in_ok-held.held before mid after
       c.behind-cell.ensures.behind c.fork_at.ensures p reads (λ e. c.if-held-eq0.false e)),
@@ -58,7 +48,5 @@ returns-clause-notes g c = c.loop-passed.invariant.1
 
 pub returns-clause-seeks : goal.returns-clause-seeks
 returns-clause-seeks g c =
-    does-as g.L.Law.holds (order_end c.args.self.cells) (PassingForks c.args.self.cells c.args.home c.loop-passed.passed)
-    (SeeksFork c.args.self.cells None) c.args.tx.now.attempts.caller c.loop-passed.tx.attempts.caller
-    c.loop-passed.invariant.2
+    does-as c.loop-passed.invariant.2
     (λ before after size. forks_end c.args.self.cells c.args.home c.loop-passed.passed before after c.requires (omega (arith, c.loop-passed-test.false)))

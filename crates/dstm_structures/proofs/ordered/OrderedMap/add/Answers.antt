@@ -1,11 +1,9 @@
 use Rattle.std.proofs.Common.{ℕ, arith, subst}
-use Rattle.std.specs.Prelude.{None, Option, Some}
+use Rattle.std.specs.Prelude.{Option}
 use Rattle.dstm_structures.specs.Effects.{Does}
 use Rattle.dstm_structures.specs.Maps.{Inserts, end_of}
-use Rattle.dstm_structures.specs.Ordered.{Adding}
 use Rattle.dstm_structures.specs.Orders.{order_end}
-use Rattle.dstm_structures.specs.Tips.{AddsKey, SeeksFork}
-use Rattle.dstm_structures.specs.declared.map.Placed.TheVariants.{Full, New}
+use Rattle.dstm_structures.specs.Tips.{SeeksFork}
 use Rattle.dstm_structures.proofs.Doing.{does-as, does-then, does-thrice, does-wider}
 use Rattle.dstm_structures.proofs.Noting.{notes_thrice, notes_twice}
 use Rattle.dstm_structures.proofs.Placing.{adds-full, adds-new, adds-none}
@@ -13,9 +11,7 @@ use Rattle.dstm_structures.proofs.ordered.OrderedMap.add.Goals as goal
 
 pub returns-in_default-clause-adds : goal.returns-in_default-clause-adds
 returns-in_default-clause-adds g c =
-    does-as g.L.Law.holds (order_end c.args.self.map.cells) (SeeksFork c.args.self.map.cells None)
-    (Adding g.V.Word.found c.args.self c.args.key c.args.value Full) c.args.tx.now.attempts.caller
-    c.free_fork.new.tx.attempts.caller
+    does-as
     (subst (λ (free : Option ℕ). Does g.L.Law.holds (order_end c.args.self.map.cells) (SeeksFork c.args.self.map.cells free)
     c.args.tx.now.attempts.caller c.free_fork.new.tx.attempts.caller) c.in_default.is c.in_ok-free.ensures.seeks)
     (λ before after size. adds-none g.V.Word.found c.args.self c.args.key c.args.value before after)
@@ -28,16 +24,10 @@ returns-in_default-placed-clause-notes g c = notes_twice c.in_ok-free.ensures.no
 
 pub returns-in_default-placed-clause-adds : goal.returns-in_default-placed-clause-adds
 returns-in_default-placed-clause-adds g c =
-    does-then g.L.Law.holds (order_end c.args.self.map.cells) (SeeksFork c.args.self.map.cells (Some c.in-Some.cell))
-    (Inserts g.V.Word.found c.args.self.map c.args.key c.args.value None)
-    (Adding g.V.Word.found c.args.self c.args.key c.args.value Full) c.args.tx.now.attempts.caller
-    c.free_fork.new.tx.attempts.caller c.insert.new.tx.attempts.caller c.in_ok-free.ensures.keeps
+    does-then c.in_ok-free.ensures.keeps
     (subst (λ (free : Option ℕ). Does g.L.Law.holds (order_end c.args.self.map.cells) (SeeksFork c.args.self.map.cells free)
     c.args.tx.now.attempts.caller c.free_fork.new.tx.attempts.caller) c.in-Some.is c.in_ok-free.ensures.seeks)
-    (does-wider g.L.Law.holds (order_end c.args.self.map.cells) (end_of c.args.self.map) (omega arith)
-    (Inserts g.V.Word.found c.args.self.map c.args.key c.args.value None) c.free_fork.new.tx.attempts.caller
-    c.insert.new.tx.attempts.caller
-    (subst (λ (place : Option ℕ). Does g.L.Law.holds (end_of c.args.self.map)
+    (does-wider (omega arith) (subst (λ (place : Option ℕ). Does g.L.Law.holds (end_of c.args.self.map)
     (Inserts g.V.Word.found c.args.self.map c.args.key c.args.value place) c.free_fork.new.tx.attempts.caller
     c.insert.new.tx.attempts.caller) c.in_default-placed.is c.in_ok-placed.ensures.inserts))
     (λ before near after size. adds-full g.V.Word.found c.args.self c.args.key c.in-Some.cell c.args.value before near after)
@@ -52,20 +42,11 @@ returns-clause-notes g c =
 
 pub returns-clause-adds : goal.returns-clause-adds
 returns-clause-adds g c =
-    does-thrice g.L.Law.holds (order_end c.args.self.map.cells) (SeeksFork c.args.self.map.cells (Some c.in-Some.cell))
-    (Inserts g.V.Word.found c.args.self.map c.args.key c.args.value (Some c.in-Some-placed.at))
-    (AddsKey c.args.self.map.cells c.args.key c.in-Some-placed.at c.in-Some.cell)
-    (Adding g.V.Word.found c.args.self c.args.key c.args.value New) c.args.tx.now.attempts.caller
-    c.free_fork.new.tx.attempts.caller c.insert.new.tx.attempts.caller c.add.new.tx.attempts.caller
-    c.in_ok-free.ensures.keeps c.in_ok-placed.ensures.keeps
+    does-thrice c.in_ok-free.ensures.keeps c.in_ok-placed.ensures.keeps
     (subst (λ (free : Option ℕ). Does g.L.Law.holds (order_end c.args.self.map.cells) (SeeksFork c.args.self.map.cells free)
     c.args.tx.now.attempts.caller c.free_fork.new.tx.attempts.caller) c.in-Some.is c.in_ok-free.ensures.seeks)
-    (does-wider g.L.Law.holds (order_end c.args.self.map.cells) (end_of c.args.self.map) (omega arith)
-    (Inserts g.V.Word.found c.args.self.map c.args.key c.args.value (Some c.in-Some-placed.at)) c.free_fork.new.tx.attempts.caller
-    c.insert.new.tx.attempts.caller
-    (subst (λ (place : Option ℕ). Does g.L.Law.holds (end_of c.args.self.map)
+    (does-wider (omega arith) (subst (λ (place : Option ℕ). Does g.L.Law.holds (end_of c.args.self.map)
     (Inserts g.V.Word.found c.args.self.map c.args.key c.args.value place) c.free_fork.new.tx.attempts.caller
-    c.insert.new.tx.attempts.caller) c.in-Some-placed.is c.in_ok-placed.ensures.inserts))
-    c.in_ok-add.ensures.adds
+    c.insert.new.tx.attempts.caller) c.in-Some-placed.is c.in_ok-placed.ensures.inserts)) c.in_ok-add.ensures.adds
     (λ before near mid after size. adds-new g.V.Word.found c.args.self c.args.key c.in-Some-placed.at c.in-Some.cell c.args.value
     before near mid after (omega arith))

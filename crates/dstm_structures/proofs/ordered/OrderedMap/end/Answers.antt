@@ -1,5 +1,3 @@
-use Rattle.dstm_structures.specs.Ordered.{Looks, TellsEnd}
-use Rattle.dstm_structures.specs.Orders.{EndsAll, order_end}
 use Rattle.dstm_structures.proofs.Doing.{does-then}
 use Rattle.dstm_structures.proofs.Noting.{notes_twice}
 use Rattle.dstm_structures.proofs.InOrder.{tells-end}
@@ -13,10 +11,6 @@ returns-clause-notes g c = notes_twice c.in_ok-place.ensures.notes c.in_ok-entry
 
 pub returns-clause-tells : goal.returns-clause-tells
 returns-clause-tells g c =
-    does-then g.L.Law.holds (order_end c.args.self.map.cells) (EndsAll c.args.self.map.cells c.args.greatest c.in_ok-place.place)
-    (Looks g.V.Word.found c.args.self c.in_ok-place.place c.in_ok-entry.entry)
-    (TellsEnd g.V.Word.found c.args.self c.args.greatest c.in_ok-entry.entry)
-    c.args.tx.now.attempts.caller c.end.new.tx.attempts.caller c.entry.new.tx.attempts.caller
-    c.in_ok-place.ensures.keeps c.in_ok-place.ensures.ends c.in_ok-entry.ensures.looks
+    does-then c.in_ok-place.ensures.keeps c.in_ok-place.ensures.ends c.in_ok-entry.ensures.looks
     (λ before mid after size. tells-end g.V.Word.found c.args.self c.args.greatest c.in_ok-place.place c.in_ok-entry.entry
     before mid after)

@@ -1,5 +1,3 @@
-use Rattle.dstm_structures.specs.Ordered.{Looks, TellsAbove}
-use Rattle.dstm_structures.specs.Orders.{FollowsAll, order_end}
 use Rattle.dstm_structures.proofs.Doing.{does-then}
 use Rattle.dstm_structures.proofs.Noting.{notes_twice}
 use Rattle.dstm_structures.proofs.InOrder.{tells-above}
@@ -13,10 +11,6 @@ returns-clause-notes g c = notes_twice c.in_ok-place.ensures.notes c.in_ok-entry
 
 pub returns-clause-tells : goal.returns-clause-tells
 returns-clause-tells g c =
-    does-then g.L.Law.holds (order_end c.args.self.map.cells) (FollowsAll c.args.self.map.cells c.args.key c.in_ok-place.place)
-    (Looks g.V.Word.found c.args.self c.in_ok-place.place c.in_ok-entry.entry)
-    (TellsAbove g.V.Word.found c.args.self c.args.key c.in_ok-entry.entry)
-    c.args.tx.now.attempts.caller c.next.new.tx.attempts.caller c.entry.new.tx.attempts.caller
-    c.in_ok-place.ensures.keeps c.in_ok-place.ensures.follows c.in_ok-entry.ensures.looks
+    does-then c.in_ok-place.ensures.keeps c.in_ok-place.ensures.follows c.in_ok-entry.ensures.looks
     (λ before mid after size. tells-above g.V.Word.found c.args.self c.args.key c.in_ok-place.place c.in_ok-entry.entry before mid
     after)

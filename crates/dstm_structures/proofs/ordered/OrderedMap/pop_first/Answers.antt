@@ -1,7 +1,7 @@
 use Rattle.std.proofs.Common.{ℕ, subst}
-use Rattle.std.specs.Prelude.{Option, Some}
+use Rattle.std.specs.Prelude.{Option}
 use Rattle.dstm_structures.specs.Effects.{Does}
-use Rattle.dstm_structures.specs.Ordered.{Pops, Removes, TellsFirst}
+use Rattle.dstm_structures.specs.Ordered.{TellsFirst}
 use Rattle.dstm_structures.specs.Orders.{order_end}
 use Rattle.dstm_structures.proofs.Doing.{does-then}
 use Rattle.dstm_structures.proofs.Noting.{notes_twice}
@@ -22,12 +22,8 @@ returns-clause-notes g c = notes_twice c.in_ok-first.ensures.notes c.in_ok-_remo
 
 pub returns-clause-pops : goal.returns-clause-pops
 returns-clause-pops g c =
-    does-then g.L.Law.holds (order_end c.args.self.map.cells) (TellsFirst g.V.Word.found c.args.self (Some c.in-Some.entry))
-    (Removes g.V.Word.found c.args.self c.in-Some.entry.0 c.in_ok-_removed._removed)
-    (Pops g.V.Word.found c.args.self (Some c.in-Some.entry)) c.args.tx.now.attempts.caller
-    c.first.new.tx.attempts.caller c.remove.new.tx.attempts.caller c.in_ok-first.ensures.keeps
+    does-then c.in_ok-first.ensures.keeps
     (subst (λ (first : Option (ℕ × g.row.V.Denot)). Does g.L.Law.holds (order_end c.args.self.map.cells)
     (TellsFirst g.V.Word.found c.args.self first) c.args.tx.now.attempts.caller c.first.new.tx.attempts.caller)
-    c.in-Some.is c.in_ok-first.ensures.tells)
-    c.in_ok-_removed.ensures.removes
+    c.in-Some.is c.in_ok-first.ensures.tells) c.in_ok-_removed.ensures.removes
     (λ before mid after size. pops-some g.V.Word.found c.args.self c.in-Some.entry c.in_ok-_removed._removed before mid after)

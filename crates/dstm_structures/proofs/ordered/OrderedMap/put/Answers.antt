@@ -1,10 +1,7 @@
 use Rattle.std.proofs.Common.{ℕ, ◌<◌, arith, subst}
-use Rattle.std.specs.Prelude.{IfSome, None, Option, Some}
+use Rattle.std.specs.Prelude.{IfSome, Option}
 use Rattle.dstm_structures.specs.Effects.{Does}
 use Rattle.dstm_structures.specs.Maps.{Seeks, end_of}
-use Rattle.dstm_structures.specs.Ordered.{Adding, Puts}
-use Rattle.dstm_structures.specs.Orders.{order_end}
-use Rattle.dstm_structures.specs.declared.map.Placed.TheVariants.{Instead}
 use Rattle.dstm_structures.proofs.Doing.{does-then, does-wider, then-write}
 use Rattle.dstm_structures.proofs.Noting.{notes_twice}
 use Rattle.dstm_structures.proofs.Placing.{puts-absent, puts-instead}
@@ -18,12 +15,7 @@ returns-in_default-clause-notes g c = notes_twice c.in_ok-found.ensures.notes c.
 
 pub returns-in_default-clause-puts : goal.returns-in_default-clause-puts
 returns-in_default-clause-puts g c =
-    does-then g.L.Law.holds (order_end c.args.self.map.cells) (Seeks c.args.self.map c.args.key None)
-    (Adding g.V.Word.found c.args.self c.args.key c.args.value c.in_ok-placed.placed)
-    (Puts g.V.Word.found c.args.self c.args.key c.args.value c.in_ok-placed.placed) c.args.tx.now.attempts.caller
-    c.find.new.tx.attempts.caller c.add.new.tx.attempts.caller c.in_ok-found.ensures.keeps
-    (does-wider g.L.Law.holds (order_end c.args.self.map.cells) (end_of c.args.self.map) (omega arith)
-    (Seeks c.args.self.map c.args.key None) c.args.tx.now.attempts.caller c.find.new.tx.attempts.caller
+    does-then c.in_ok-found.ensures.keeps (does-wider (omega arith)
     (subst (λ (place : Option ℕ). Does g.L.Law.holds (end_of c.args.self.map) (Seeks c.args.self.map c.args.key place)
     c.args.tx.now.attempts.caller c.find.new.tx.attempts.caller) c.in_default.is c.in_ok-found.ensures.seeks))
     c.in_ok-placed.ensures.adds
@@ -38,12 +30,7 @@ returns-clause-notes g c = notes_twice c.in_ok-found.ensures.notes c.in_ok-had.e
 
 pub returns-clause-puts : goal.returns-clause-puts
 returns-clause-puts g c =
-    then-write g.L.Law.holds (order_end c.args.self.map.cells) (Seeks c.args.self.map c.args.key (Some c.in-Some.at))
-    (Puts g.V.Word.found c.args.self c.args.key c.args.value (Instead c.in_ok-had.had)) g.V.Word.found
-    c.args.tx.now.attempts.caller c.find.new.tx.attempts.caller c.replace.new.self.attempts.caller c.value_at.result.object
-    c.in_ok-had.had c.args.value c.in_ok-found.ensures.keeps
-    (does-wider g.L.Law.holds (order_end c.args.self.map.cells) (end_of c.args.self.map) (omega arith)
-    (Seeks c.args.self.map c.args.key (Some c.in-Some.at)) c.args.tx.now.attempts.caller c.find.new.tx.attempts.caller
+    then-write c.in_ok-found.ensures.keeps (does-wider (omega arith)
     (subst (λ (place : Option ℕ). Does g.L.Law.holds (end_of c.args.self.map) (Seeks c.args.self.map c.args.key place)
     c.args.tx.now.attempts.caller c.find.new.tx.attempts.caller) c.in-Some.is c.in_ok-found.ensures.seeks))
     c.in_ok-had.ensures.puts

@@ -1,20 +1,15 @@
 use Rattle.std.proofs.Common.{ℕ, arith, subst}
-use Rattle.std.specs.Prelude.{None, Option, Some}
+use Rattle.std.specs.Prelude.{Option}
 use Rattle.dstm_structures.specs.Effects.{Does}
 use Rattle.dstm_structures.specs.Maps.{Seeks, end_of}
-use Rattle.dstm_structures.specs.Ordered.{Removes, Takes}
-use Rattle.dstm_structures.specs.Orders.{order_end}
-use Rattle.dstm_structures.proofs.Doing.{Reads, does-as, does-read, does-thrice, does-wider}
+use Rattle.dstm_structures.proofs.Doing.{does-as, does-read, does-thrice, does-wider}
 use Rattle.dstm_structures.proofs.Noting.{notes_thrice, notes_twice}
 use Rattle.dstm_structures.proofs.Placing.{removes-none, removes-some}
 use Rattle.dstm_structures.proofs.ordered.OrderedMap.remove.Goals as goal
 
 pub returns-in_default-clause-removes : goal.returns-in_default-clause-removes
 returns-in_default-clause-removes g c =
-    does-as g.L.Law.holds (order_end c.args.self.map.cells) (Seeks c.args.self.map c.args.key None)
-    (Removes g.V.Word.found c.args.self c.args.key None) c.args.tx.now.attempts.caller c.find.new.tx.attempts.caller
-    (does-wider g.L.Law.holds (order_end c.args.self.map.cells) (end_of c.args.self.map) (omega arith)
-    (Seeks c.args.self.map c.args.key None) c.args.tx.now.attempts.caller c.find.new.tx.attempts.caller
+    does-as (does-wider (omega arith)
     (subst (λ (place : Option ℕ). Does g.L.Law.holds (end_of c.args.self.map) (Seeks c.args.self.map c.args.key place)
     c.args.tx.now.attempts.caller c.find.new.tx.attempts.caller) c.in_default.is c.in_ok-found.ensures.seeks))
     (λ before after size. removes-none g.V.Word.found c.args.self c.args.key before after)
@@ -32,18 +27,9 @@ returns-clause-notes g c =
 
 pub returns-clause-removes : goal.returns-clause-removes
 returns-clause-removes g c =
-    does-thrice g.L.Law.holds (order_end c.args.self.map.cells) (Seeks c.args.self.map c.args.key (Some c.in-Some.at))
-    (Reads g.V.Word.found c.value_at.result.object c.in_ok-value.value)
-    (Takes g.V.Word.found c.args.self c.args.key c.in-Some.at)
-    (Removes g.V.Word.found c.args.self c.args.key (Some c.in_ok-value.value)) c.args.tx.now.attempts.caller
-    c.find.new.tx.attempts.caller c.get.new.self.attempts.caller c.take.new.tx.attempts.caller
-    c.in_ok-found.ensures.keeps c.in_ok-value.ensures.keeps
-    (does-wider g.L.Law.holds (order_end c.args.self.map.cells) (end_of c.args.self.map) (omega arith)
-    (Seeks c.args.self.map c.args.key (Some c.in-Some.at)) c.args.tx.now.attempts.caller c.find.new.tx.attempts.caller
+    does-thrice c.in_ok-found.ensures.keeps c.in_ok-value.ensures.keeps (does-wider (omega arith)
     (subst (λ (place : Option ℕ). Does g.L.Law.holds (end_of c.args.self.map) (Seeks c.args.self.map c.args.key place)
     c.args.tx.now.attempts.caller c.find.new.tx.attempts.caller) c.in-Some.is c.in_ok-found.ensures.seeks))
-    (does-read g.L.Law.holds (order_end c.args.self.map.cells) g.V.Word.found c.find.new.tx.attempts.caller
-    c.get.new.self.attempts.caller c.value_at.result.object c.in_ok-value.value c.in_ok-value.ensures.gets)
-    c.in_ok-take.ensures.takes
+    (does-read c.in_ok-value.ensures.gets) c.in_ok-take.ensures.takes
     (λ before near mid after size. removes-some g.V.Word.found c.args.self c.args.key c.in-Some.at c.value_at.result.object
     c.in_ok-value.value before near mid after c.value_at.ensures)

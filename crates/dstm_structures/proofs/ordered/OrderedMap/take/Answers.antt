@@ -1,8 +1,4 @@
 use Rattle.std.proofs.Common.{arith}
-use Rattle.dstm_structures.specs.Maps.{ClearsAll, end_of}
-use Rattle.dstm_structures.specs.Ordered.{Takes}
-use Rattle.dstm_structures.specs.Orders.{order_end}
-use Rattle.dstm_structures.specs.Tips.{DropsKey}
 use Rattle.dstm_structures.proofs.Doing.{does-then, does-wider}
 use Rattle.dstm_structures.proofs.Noting.{notes_twice}
 use Rattle.dstm_structures.proofs.Placing.{takes-key}
@@ -16,11 +12,6 @@ returns-clause-notes g c = notes_twice c.in_ok-drop_key.ensures.notes c.in_ok-cl
 
 pub returns-clause-takes : goal.returns-clause-takes
 returns-clause-takes g c =
-    does-then g.L.Law.holds (order_end c.args.self.map.cells) (DropsKey c.args.self.map.cells c.args.key c.args.at)
-    (ClearsAll c.args.self.map c.args.key) (Takes g.V.Word.found c.args.self c.args.key c.args.at)
-    c.args.tx.now.attempts.caller c.drop_key.new.tx.attempts.caller c.clear.new.tx.attempts.caller
-    c.in_ok-drop_key.ensures.keeps c.in_ok-drop_key.ensures.drops
-    (does-wider g.L.Law.holds (order_end c.args.self.map.cells) (end_of c.args.self.map) (omega arith)
-    (ClearsAll c.args.self.map c.args.key) c.drop_key.new.tx.attempts.caller c.clear.new.tx.attempts.caller
+    does-then c.in_ok-drop_key.ensures.keeps c.in_ok-drop_key.ensures.drops (does-wider (omega arith)
     c.in_ok-clear.ensures.clears)
     (λ before mid after size. takes-key g.V.Word.found c.args.self c.args.key c.args.at before mid after)

@@ -1,7 +1,4 @@
 use Rattle.std.proofs.Common.{◌∙◌, ℕ, List, subst, sym}
-use Rattle.dstm_structures.specs.Items.{ListsInOrder}
-use Rattle.dstm_structures.specs.Ordered.{TellsAbove, TellsFirst}
-use Rattle.dstm_structures.specs.Orders.{order_end}
 use Rattle.dstm_structures.proofs.Doing.{does-as, does-then}
 use Rattle.dstm_structures.proofs.Items.{Walking, walk-end, walk-next, walk-start}
 use Rattle.dstm_structures.proofs.Noting.{notes_twice}
@@ -11,9 +8,7 @@ pub loop-next-init : goal.loop-next-init
 loop-next-init g c = (
   c.in_ok-next.ensures.keeps,
   c.in_ok-next.ensures.notes,
-  does-as g.L.Law.holds (order_end c.args.self.map.cells) (TellsFirst g.V.Word.found c.args.self c.in_ok-next.next)
-      (Walking g.V.Word.found c.args.self c.new-items.result.items c.in_ok-next.next) c.args.tx.now.attempts.caller
-      c.first.new.tx.attempts.caller c.in_ok-next.ensures.tells
+  does-as c.in_ok-next.ensures.tells
       (λ before after size tells. subst (λ (xs : List (ℕ × g.row.V.Denot)).
       Walking g.V.Word.found c.args.self xs c.in_ok-next.next before after) (sym c.new-items.ensures.items)
       (walk-start g.V.Word.found c.args.self c.in_ok-next.next before after tells)),
@@ -26,13 +21,8 @@ pub loop-next-preserved : goal.loop-next-preserved
 loop-next-preserved g c = (
   c.in_ok-above.ensures.keeps ∙ c.loop-next.invariant.0,
   notes_twice c.loop-next.invariant.1 c.in_ok-above.ensures.notes,
-  does-then g.L.Law.holds (order_end c.args.self.map.cells)
-      (Walking g.V.Word.found c.args.self c.loop-next.items.items c.loop-next.next)
-      (TellsAbove g.V.Word.found c.args.self c.in-Some.entry.0 c.in_ok-above.above)
-      (Walking g.V.Word.found c.args.self c.push.new.self.items c.if_above-next.result) c.args.tx.now.attempts.caller
-      c.loop-next.tx.attempts.caller c.next_above.new.tx.attempts.caller c.loop-next.invariant.0 c.loop-next.invariant.2
-      c.in_ok-above.ensures.tells
-      (λ before mid after size walking tells. subst (λ (xs : List (ℕ × g.row.V.Denot)).
+  does-then c.loop-next.invariant.0 c.loop-next.invariant.2
+      c.in_ok-above.ensures.tells (λ before mid after size walking tells. subst (λ (xs : List (ℕ × g.row.V.Denot)).
       Walking g.V.Word.found c.args.self xs c.if_above-next.result before after) (sym c.in_ok-push.ensures.items)
       (walk-next g.V.Word.found c.args.self c.loop-next.items.items c.in-Some.entry c.loop-next.next c.in_ok-above.above
       c.if_above-next.result before mid after c.in-Some.is c.if_above-next.ensures walking tells)),
@@ -40,9 +30,6 @@ loop-next-preserved g c = (
 
 pub returns-clause-lists : goal.returns-clause-lists
 returns-clause-lists g c =
-    does-as g.L.Law.holds (order_end c.args.self.map.cells)
-    (Walking g.V.Word.found c.args.self c.loop-next.items.items c.loop-next.next)
-    (ListsInOrder g.V.Word.found c.args.self c.loop-next.items.items) c.args.tx.now.attempts.caller
-    c.loop-next.tx.attempts.caller c.loop-next.invariant.2
+    does-as c.loop-next.invariant.2
     (λ before after size. walk-end g.V.Word.found c.args.self c.loop-next.items.items c.loop-next.next before after
     c.in_default.is)

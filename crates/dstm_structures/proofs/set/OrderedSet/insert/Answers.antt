@@ -1,9 +1,4 @@
 use Rattle.std.proofs.Common.{◌∙◌, arith, sym}
-use Rattle.dstm_structures.specs.Maps.{Seeks, end_of}
-use Rattle.dstm_structures.specs.Ordered.{Adding}
-use Rattle.dstm_structures.specs.Orders.{order_end}
-use Rattle.dstm_structures.specs.Sets.{Inserts, present_of}
-use Rattle.dstm_structures.specs.declared.set.Inserted.TheVariants.{There}
 use Rattle.dstm_structures.proofs.Doing.{does-as, does-then, does-wider}
 use Rattle.dstm_structures.proofs.Noting.{notes_twice}
 use Rattle.dstm_structures.proofs.Sets.{inserts-absent, inserts-there}
@@ -11,11 +6,7 @@ use Rattle.dstm_structures.proofs.set.OrderedSet.insert.Goals as goal
 
 pub returns-then-is_some-clause-inserts : goal.returns-then-is_some-clause-inserts
 returns-then-is_some-clause-inserts g c =
-    does-as g.L.Law.holds (order_end c.args.self.map.map.cells) (Seeks c.args.self.map.map c.args.key c.in_ok-found.found)
-    (Inserts c.args.self c.args.key There) c.args.tx.now.attempts.caller c.find.new.tx.attempts.caller
-    (does-wider g.L.Law.holds (order_end c.args.self.map.map.cells) (end_of c.args.self.map.map) (omega arith)
-    (Seeks c.args.self.map.map c.args.key c.in_ok-found.found) c.args.tx.now.attempts.caller c.find.new.tx.attempts.caller
-    c.in_ok-found.ensures.seeks)
+    does-as (does-wider (omega arith) c.in_ok-found.ensures.seeks)
     (λ before after size. inserts-there c.args.self c.args.key c.in_ok-found.found before after
     (sym c.is_some.ensures ∙ c.if-is_some.true))
 
@@ -27,13 +18,7 @@ returns-clause-notes g c = notes_twice c.in_ok-found.ensures.notes c.in_ok-place
 
 pub returns-clause-inserts : goal.returns-clause-inserts
 returns-clause-inserts g c =
-    does-then g.L.Law.holds (order_end c.args.self.map.map.cells) (Seeks c.args.self.map.map c.args.key c.in_ok-found.found)
-    (Adding present_of c.args.self.map c.args.key _ c.in_ok-placed.placed)
-    (Inserts c.args.self c.args.key c.inserted_by.result) c.args.tx.now.attempts.caller
-    c.find.new.tx.attempts.caller c.add.new.tx.attempts.caller c.in_ok-found.ensures.keeps
-    (does-wider g.L.Law.holds (order_end c.args.self.map.map.cells) (end_of c.args.self.map.map) (omega arith)
-    (Seeks c.args.self.map.map c.args.key c.in_ok-found.found) c.args.tx.now.attempts.caller c.find.new.tx.attempts.caller
-    c.in_ok-found.ensures.seeks)
+    does-then c.in_ok-found.ensures.keeps (does-wider (omega arith) c.in_ok-found.ensures.seeks)
     c.in_ok-placed.ensures.adds
     (λ before mid after size. inserts-absent c.args.self c.args.key _ c.in_ok-found.found c.in_ok-placed.placed
     c.inserted_by.result before mid after (sym c.is_some.ensures ∙ c.if-is_some.false) c.inserted_by.ensures)
