@@ -13,7 +13,8 @@ pub fn calls_add_up<L: Law>()
     ensures { (may : (state : LocalState) (task : Task) → Bool) → CallsAddUp L L.holds may }
 {}
 
-/// An attempt is some calls.
+/// An attempt is some calls, of which none opens for reading where all opens are for writing, and the next one of its caller
+/// is of a new transaction exactly where it has committed.
 pub fn attempts_are_calls<L: Law>()
     ensures { AttemptsAreCalls L L.holds }
 {}

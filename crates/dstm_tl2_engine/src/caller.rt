@@ -164,6 +164,7 @@ impl<L: Law> TlCaller<L> {
         if let Some(value) = self.opened.value(o) {
             return Ok(value);
         }
+        // The two ways out stay apart: as the call's own answer they would be joined first, by eight instructions.
         let value = self.read_first(stm, o)?;
         Ok(value)
     }
