@@ -3,15 +3,23 @@ use Rattle.std.specs.Prelude.{ℕ, ◌+◌, ◌-◌, ◌^◌, ◌==◌, Bool, tr
 use Rattle.dstm_core.specs.declared.event.Kind.{Kind}
 use Rattle.dstm_core.specs.declared.event.Kind.TheVariants.{Begin, Kill}
 use Rattle.dstm_order.specs.Counts.{one_if}
+use Rattle.dstm_steps.specs.declared.counter.Counter.TheInside.{Inside}
 use Rattle.dstm_steps.specs.declared.counting.Tally.{Tally}
 
 -- a count that stands at the greatest number of 64 bits
 abbrev pub stands : ℕ → ℕ
 stands count = min count (2 ^ 64 - 1)
 
--- the steps, of which `past` is one less, or the greatest number where there are none
-abbrev pub steps_past : ℕ → ℕ
-steps_past past = if past == 2 ^ 64 - 1 then 0 else past + 1
+-- the steps that a counter has counted
+abbrev pub steps_in : Inside → ℕ
+steps_in c = if c.full then 2 ^ 64 - 1 else stands (c.past + 1)
+
+-- what a counter counts
+abbrev pub tallied : Inside → Tally
+tallied c =
+    if c.begun
+    then record { steps = steps_in c; turns = c.turns; kills = c.kills }
+    else record { steps = 0; turns = 0; kills = 0 }
 
 abbrev pub kills : Kind → Bool
 kills Kill = true

@@ -1,27 +1,30 @@
 // What a caller counts, step by step.
-ghost use Rattle.std.specs.Prelude.{◌≡◌};
-ghost use Rattle.dstm_steps.specs.Ticks.{ticked};
+ghost use Rattle.std.specs.Prelude.{◌≡◌, ◌+◌};
+ghost use Rattle.dstm_order.specs.Counts.{one_if};
+ghost use Rattle.dstm_steps.specs.Ticks.{stands, ticked, ticked_on};
 
 use crate::counting::Tally;
 use dstm_core::Kind;
 use std::marker::Model;
 
-// A tally, kept so that a step costs one question: `past` is one less than the steps, and the greatest number where there are
-// none. So it stands still at its two greatest numbers.
+// A tally, kept so that a step costs one addition and one question. `past` is one less than the steps; where it begins
+// anew at 0 the count is `full`. All of it counts only once an attempt has `begun`.
 #[derive(Drop)]
 pub(crate) struct Counter {
     past: u64,
     turns: u64,
     kills: u64,
+    full: bool,
+    begun: bool,
 }
 
 impl Model for Counter {
     ghost use Rattle.dstm_steps.specs.declared.counting.Tally.{Tally};
-    ghost use Rattle.dstm_steps.specs.Ticks.{steps_past};
+    ghost use Rattle.dstm_steps.specs.Ticks.{tallied};
 
     ghost Value = { Tally };
 
-    ghost view = { λ c. record { steps = steps_past c.past; turns = c.turns; kills = c.kills } };
+    ghost view = { tallied };
 }
 
 impl Counter {
@@ -30,17 +33,30 @@ impl Counter {
         ensures { result ≡ record { steps = 0; turns = 0; kills = 0 } }
     {
         Counter {
-            past: u64::MAX,
+            past: 0,
             turns: 0,
             kills: 0,
+            full: false,
+            begun: false,
         }
     }
 
     pub fn tally(&self) -> Tally
         ensures { result ≡ self.now }
     {
+        if !self.begun {
+            return Tally {
+                steps: 0,
+                turns: 0,
+                kills: 0,
+            };
+        }
         Tally {
-            steps: self.past.wrapping_add(1),
+            steps: if self.full {
+                u64::MAX
+            } else {
+                self.past.saturating_add(1)
+            },
             turns: self.turns,
             kills: self.kills,
         }
@@ -55,15 +71,30 @@ impl Counter {
                 past: 0,
                 turns: 0,
                 kills: 0,
+                full: false,
+                begun: true,
             };
             return;
         }
-        if (turn || kills) && self.past != u64::MAX {
-            self.turns = self.turns.saturating_add(u64::from(turn));
-            self.kills = self.kills.saturating_add(u64::from(kills));
-        }
-        if self.past < u64::MAX - 1 {
-            self.past += 1;
+        self.more(turn, kills);
+    }
+
+    // One step more, which is no Begin.
+    fn more(&mut self, turn: bool, kills: bool)
+        ensures { self.new ≡ ticked_on turn kills self.old }
+    {
+        self.turns = one_more(self.turns, turn);
+        self.kills = one_more(self.kills, kills);
+        self.past = self.past.wrapping_add(1);
+        if self.past == 0 {
+            self.full = true;
         }
     }
+}
+
+// A count, with one more where there is one.
+fn one_more(count: u64, more: bool) -> u64
+    ensures { result ≡ stands (count + one_if more) }
+{
+    if more { count.saturating_add(1) } else { count }
 }
