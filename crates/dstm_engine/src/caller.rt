@@ -1,5 +1,5 @@
 ghost use base.Fml.{GName};
-ghost use Rattle.std.specs.Prelude.{List, Ok, Err, OnOk, MatchResult, cond, ◌≡◌, ◌≢◌, ◌<◌, ◌≤◌, ◌*◌, ℕ, true, false, [], None, Some, IfErr, IfOk, IfSome, IsSome, IsTrue, is_some, not, nat_lt, ◌||◌, ◌&&◌, ◌+◌};
+ghost use Rattle.std.specs.Prelude.{List, Ok, Err, OnOk, MatchResult, cond, ◌≡◌, ◌≢◌, ◌<◌, ◌≤◌, ◌*◌, ℕ, true, false, [], None, Some, IfErr, IfOk, IsSome, IsTrue, is_some, not, nat_lt, ◌||◌, ◌&&◌, ◌+◌};
 ghost use Rattle.dstm_core.specs.State.{first};
 ghost use Rattle.dstm_core.specs.Words.{IsValid};
 ghost use Rattle.dstm_engine.specs.Callers.{begun_log, entry, handed, held, is_live, is_opened, law_of, live_held, live_opened, new_value, seat_view, shape_of, state, written};

@@ -1,4 +1,4 @@
-use Rattle.std.proofs.Common.{◌∙◌, ◌≡◌, ap, false, subst, sym, true}
+use Rattle.std.proofs.Common.{◌∙◌, ◌≡◌, ap, subst, sym, true}
 use Rattle.dstm_engine.proofs.Base.{Work}
 use Rattle.dstm_engine.proofs.Handing.{reading_all, reading_some}
 use Rattle.dstm_engine.specs.Callers.{Called, shape_of}
