@@ -1,5 +1,5 @@
 -- What an ordered map tells of its keys where its cells are in order, and what keeps them in order.
-use Rattle.std.proofs.Common.{◌≡◌, ◌∙◌, ℕ, ◌+◌, ◌*◌, ◌<◌, ◌≤◌, Bool, true, false, List, ap, arith, cond, refl, sym, subst, ◌⊎◌, inl, inr, nat_lt}
+use Rattle.std.proofs.Common.{◌≡◌, ◌∙◌, ℕ, ◌+◌, ◌*◌, ◌<◌, ◌≤◌, Bool, true, false, List, ap, arith, cond, refl, sym, subst, inl, inr, nat_lt}
 use Rattle.std.specs.Prelude.{Option, None, Some}
 use Rattle.dstm_model.specs.declared.value.Val.{Val}
 use Rattle.dstm_model.specs.Map.{value_at}

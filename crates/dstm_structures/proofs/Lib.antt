@@ -5,6 +5,7 @@ pub mod Effects
 pub mod Forks
 pub mod Growing
 pub mod Items
+pub mod Looking
 pub mod Losing
 pub mod Mapping
 pub mod Maps
@@ -17,6 +18,7 @@ pub mod Places
 pub mod Placing
 pub mod Powers
 pub mod Queues
+pub mod Rising
 pub mod Sets
 pub mod Tipping
 pub mod Tries

@@ -1,13 +1,13 @@
 -- What the calls on an ordered set do, by what those on its map do.
-use Rattle.std.proofs.Common.{◌≡◌, ◌∙◌, ℕ, ◌<◌, Bool, true, false, List, ap, arith, get_or, length, refl, sym, subst}
-use Rattle.std.specs.Prelude.{Contains, Option, None, Some, is_some, map}
+use Rattle.std.proofs.Common.{◌≡◌, ◌≢◌, ◌∙◌, ℕ, ◌<◌, Bool, true, false, List, ap, arith, get_or, length, refl, sym, subst}
+use Rattle.std.specs.Prelude.{AllPairs, Contains, Option, None, Some, is_some, map}
 use Rattle.std.proofs.lemmas.List.{get_or-map, length-map}
 use Rattle.std.proofs.lemmas.List.Elements.{Contains-get_or}
 use Rattle.dstm_model.specs.declared.value.Val.{Val}
 use Rattle.dstm_structures.specs.Items as items
 use Rattle.dstm_structures.specs.Maps.{Seeks, at_place, item_of, place_in, values_in}
 use Rattle.dstm_structures.specs.Ordered as ordered
-use Rattle.dstm_structures.specs.Sets.{Adds, Counts, Inserts, IsFirst, IsFirstAbove, IsLast, Makes, Pops, Removes, TellsAbove, TellsFirst, TellsIf, TellsLast, inserted_by, key_in, present_of}
+use Rattle.dstm_structures.specs.Sets.{Adds, AreKeys, Counts, Inserts, IsFirst, IsFirstAbove, IsLast, Makes, Pops, Removes, TellsAbove, TellsFirst, TellsIf, TellsLast, inserted_by, key_in, present_of}
 use Rattle.dstm_structures.specs.declared.map.Placed.{Placed}
 use Rattle.dstm_structures.specs.declared.map.Placed.TheVariants.{New, Instead, Full}
 use Rattle.dstm_structures.specs.declared.set.Inserted.{Inserted}
@@ -133,42 +133,66 @@ module _ (set : OrderedSet) where
         order = t.order;
       }
 
-  -- ---- how many there are
+  -- ---- all keys
 
+  abbrev key : ℕ × Present → ℕ
+  key entry = entry.0
+
+  module _ (entries : List (ℕ × Present)) (values : List Val) where
+    inside : (k : ℕ) → k < length (map key entries) → k < length entries
+    inside k within = subst (λ (n : ℕ). k < n) (length-map entries key) within
+
+    all_keys : ((k : ℕ) (value : Present) → item_of present_of set.map.map values k ≡ Some value → Contains entries (k, value)) →
+        (k : ℕ) → is_some (item_of present_of set.map.map values k) ≡ true → Contains (map key entries) k
+    all_keys all k it = from (item_of present_of set.map.map values k) refl
+      where
+        from : (o : Option Present) → item_of present_of set.map.map values k ≡ o → Contains (map key entries) k
+        from None is = absurd (never (sym (ap is_some is) ∙ it))
+          where
+            never : false ≡ true → ⊥
+            never e = cc
+        from (Some value) is =
+            let has = all k value is in (
+              has.0,
+              subst (λ (n : ℕ). has.0 < n) (sym (length-map entries key)) has.1,
+              get_or-map key entries has.0 (k, value) k has.1 ∙ ap key has.2,
+            )
+
+    only_keys : ((k : ℕ) (value : Present) → Contains entries (k, value) → item_of present_of set.map.map values k ≡ Some value) →
+        (k : ℕ) → Contains (map key entries) k → is_some (item_of present_of set.map.map values k) ≡ true
+    only_keys only k has =
+        let entry : ℕ × Present = get_or entries has.0 (k, record {}) in
+        let same : entry.0 ≡ k = sym (get_or-map key entries has.0 (k, record {}) k (inside has.0 has.1)) ∙ has.2 in
+        ap (λ (x : ℕ). is_some (item_of present_of set.map.map values x)) (sym same)
+        ∙ ap is_some (only entry.0 entry.1 (Contains-get_or entries has.0 (k, record {}) (inside has.0 has.1)))
+
+    pairs : (R : ℕ → ℕ → Type 0) → AllPairs (λ one other. R one.0 other.0) entries → AllPairs R (map key entries)
+    pairs R each i j d less within =
+        let far : j < length entries = inside j within in
+        subst (λ (x : ℕ). R x (get_or (map key entries) j d))
+        (sym (get_or-map key entries i (d, record {}) d (omega (arith, less, far))))
+        (subst (λ (y : ℕ). R (get_or entries i (d, record {})).0 y) (sym (get_or-map key entries j (d, record {}) d far))
+        (each i j (d, record {}) less far))
+
+  -- how many there are
   pub counts : (count : ℕ) (before after : List Val) → items.Counts present_of set.map.map count before after →
       Counts set count before after
   counts count before after c = record {
     keys = map key c.items;
-    all = λ k it. from k (item_of present_of set.map.map before k) refl it;
-    only = λ k has.
-        let entry : ℕ × Present = get_or c.items has.0 (k, record {}) in
-        let same : entry.0 ≡ k = sym (get_or-map key c.items has.0 (k, record {}) k (inside has.0 has.1)) ∙ has.2 in
-        ap (λ (x : ℕ). is_some (item_of present_of set.map.map before x)) (sym same)
-        ∙ ap is_some (c.lists.only entry.0 entry.1 (Contains-get_or c.items has.0 (k, record {}) (inside has.0 has.1)));
-    once = λ i j d less within.
-        let far : j < length c.items = inside j within in
-        let near : i < length c.items = omega (arith, less, far) in
-        λ same. c.lists.once i j (d, record {}) less far
-        (sym (get_or-map key c.items i (d, record {}) d near) ∙ same ∙ get_or-map key c.items j (d, record {}) d far);
+    all = all_keys c.items before c.lists.all;
+    only = only_keys c.items before c.lists.only;
+    once = pairs c.items before (λ one other. one ≢ other) c.lists.once;
     is = c.is ∙ sym (length-map c.items key);
     same = c.lists.same;
   }
-    where
-      key : ℕ × Present → ℕ
-      key entry = entry.0
 
-      inside : (k : ℕ) → k < length (map key c.items) → k < length c.items
-      inside k within = subst (λ (n : ℕ). k < n) (length-map c.items key) within
-
-      from : (k : ℕ) (o : Option Present) → item_of present_of set.map.map before k ≡ o →
-          is_some (item_of present_of set.map.map before k) ≡ true → Contains (map key c.items) k
-      from k None is it = absurd (never (sym (ap is_some is) ∙ it))
-        where
-          never : false ≡ true → ⊥
-          never e = cc
-      from k (Some value) is it =
-          let has = c.lists.all k value is in (
-            has.0,
-            subst (λ (n : ℕ). has.0 < n) (sym (length-map c.items key)) has.1,
-            get_or-map key c.items has.0 (k, value) k has.1 ∙ ap key has.2,
-          )
+  -- they are listed
+  pub lists : (entries : List (ℕ × Present)) (keys : List ℕ) (values : List Val) → keys ≡ map key entries →
+      items.AreItems present_of set.map entries values → AreKeys set keys values
+  lists entries keys values is are =
+      subst (λ (xs : List ℕ). AreKeys set xs values) (sym is)
+      (record {
+        all = all_keys entries values are.all;
+        only = only_keys entries values are.only;
+        rising = pairs entries values (λ one other. one < other) are.rising;
+      })

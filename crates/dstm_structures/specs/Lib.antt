@@ -2,6 +2,7 @@ pub mod Circles
 pub mod Effects
 pub mod Items
 pub mod Laws
+pub mod Looks
 pub mod Maps
 pub mod Ordered
 pub mod Orders

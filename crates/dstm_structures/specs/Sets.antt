@@ -119,6 +119,12 @@ module _ (set : OrderedSet) where
     pub is : count ≡ length keys
     pub same : after ≡ before
 
+  -- these are the keys of a set, in their order
+  pub record AreKeys (keys : List ℕ) (values : List Val) : Type 0 where
+    pub all : (key : ℕ) → is_in values key ≡ true → Contains keys key
+    pub only : (key : ℕ) → Contains keys key → is_in values key ≡ true
+    pub rising : AllPairs (λ one other. one < other) keys
+
   -- an empty set, in order, has got the objects behind those before
   pub record Adds (before after : List Val) : Type 0 where
     pub added : List Val

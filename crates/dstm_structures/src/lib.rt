@@ -2,14 +2,17 @@
 //! memory. Whoever uses them states no law and proves nothing.
 #![tactic(auto)]
 
+mod between;
 mod cells;
 mod listing;
+mod looks;
 mod map;
 mod order;
 mod ordered;
 mod queue;
 mod set;
 mod tips;
+mod walks;
 
 pub use map::{HashMap, Placed};
 pub use ordered::OrderedMap;

@@ -41,34 +41,8 @@ impl<V: Word> HashMap<V> {
         ensures lists { IfOk result (λ items. Does L.holds (end_of self) (Lists V.found self items.items)
             tx.old.attempts.caller tx.new.attempts.caller) }
     {
-        let mut items = Vec::new(alloc);
-        for at in 0..self.cells.capacity {
-            self.list_place(tx, &mut items, at)?;
-        }
+        let items = self.items_by(tx, alloc)?;
         Ok(items)
-    }
-
-    // Adds what is found at a place to these items.
-    fn list_place<L: Law>(
-        self,
-        tx: &mut Tx<'_, L>,
-        items: &mut Vec<(u64, V)>,
-        at: u32,
-    ) -> Result<(), Stop>
-        requires { at < self.cells.capacity }
-        ensures keeps { Keeps tx.old.attempts.caller tx.new.attempts.caller }
-        ensures notes { Notes L.holds (noting tx.old) (noting tx.new) }
-        ensures stops { IfErr result (λ stop. Stops (end_of self) true tx.old.attempts.caller stop.why) }
-        ensures lists { OnOk result (Does L.holds (end_of self) (ListsPlace V.found self at items.old.items items.new.items)
-            tx.old.attempts.caller tx.new.attempts.caller) }
-    {
-        let found = self.stands(tx, at)?;
-        let Some(key) = found else {
-            return Ok(());
-        };
-        let value = tx.get(self.value_at(at))?;
-        items.push((key, value))?;
-        Ok(())
     }
 
     // The key that is found at a place, if one is.
@@ -80,16 +54,8 @@ impl<V: Word> HashMap<V> {
         ensures stands { IfOk result (λ key. Does L.holds (end_of self) (Stands self at key)
             tx.old.attempts.caller tx.new.attempts.caller) }
     {
-        let held = tx.get(self.cells.key_at(at))?;
-        let Some(key) = held else {
-            return Ok(None);
-        };
-        let place = self.find(tx, key)?;
-        if is_at(at, place) {
-            Ok(Some(key))
-        } else {
-            Ok(None)
-        }
+        let key = self.stands_by(tx, at)?;
+        Ok(key)
     }
 }
 
@@ -156,15 +122,5 @@ fn if_above<V: Word>(key: u64, above: Option<(u64, V)>) -> Option<(u64, V)>
     match above {
         Some(entry) => { if key < entry.0 { Some(entry) } else { None } }
         None => None,
-    }
-}
-
-// Whether this is the place.
-fn is_at(at: u32, place: Option<u32>) -> bool
-    ensures { result ≡ is_key at place }
-{
-    match place {
-        Some(place) => place == at,
-        None => false,
     }
 }

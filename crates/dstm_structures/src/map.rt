@@ -67,12 +67,8 @@ impl<V: Word> HashMap<V> {
         ensures tells { IfOk result (λ answer. Does L.holds (end_of self) (Tells V.found self key answer)
             tx.old.attempts.caller tx.new.attempts.caller) }
     {
-        let found = self.find(tx, key)?;
-        let Some(at) = found else {
-            return Ok(None);
-        };
-        let value = tx.get(self.value_at(at))?;
-        Ok(Some(value))
+        let answer = self.item_by(tx, key)?;
+        Ok(answer)
     }
 
     /// Tells whether a key is there.
@@ -139,16 +135,8 @@ impl<V: Word> HashMap<V> {
         ensures seeks { IfOk result (λ place. Does L.holds (end_of self) (Seeks self key place)
             tx.old.attempts.caller tx.new.attempts.caller) }
     {
-        let home = self.home(key);
-        let reach = self.reach(tx, home)?;
-        for passed in 0..reach {
-            let at = behind(self.cells.capacity, home, passed);
-            let held = tx.get(self.cells.key_at(at))?;
-            if is_key(key, held) {
-                return Ok(Some(at));
-            }
-        }
-        Ok(None)
+        let place = self.find_by(tx, key)?;
+        Ok(place)
     }
 
     // Puts a key that is not there into the first free place from its home on, and answers it.
@@ -271,12 +259,8 @@ impl<V: Word> HashMap<V> {
         ensures reaches { IfOk result (λ reach. Does L.holds (end_of self) (Reaches self home reach)
             tx.old.attempts.caller tx.new.attempts.caller) }
     {
-        let told = tx.get(self.reach_at(home))?;
-        if told < u64::from(self.cells.capacity) {
-            Ok(told as u32)
-        } else {
-            Ok(self.cells.capacity)
-        }
+        let reach = self.reach_by(tx, home)?;
+        Ok(reach)
     }
 
     // The place from which on a key is looked for.
@@ -299,7 +283,7 @@ impl<V: Word> HashMap<V> {
     }
 
     // The cell that tells at how many places keys of this home are looked for.
-    fn reach_at(self, home: u32) -> Cell<u64>
+    pub(crate) fn reach_at(self, home: u32) -> Cell<u64>
         requires { home < self.cells.capacity }
         ensures { result.object ≡ self.cells.first + 3 * home }
     {
@@ -316,7 +300,7 @@ impl<V: Word> HashMap<V> {
 }
 
 // Whether a place holds this key.
-fn is_key(key: u64, held: Option<u64>) -> bool
+pub(crate) fn is_key(key: u64, held: Option<u64>) -> bool
     ensures { result ≡ is_key key held }
 {
     match held {

@@ -1,16 +1,12 @@
-use Rattle.std.proofs.Common.{arith, refl}
-use Rattle.dstm_structures.proofs.Doing.{does-as, does-read}
-use Rattle.dstm_structures.proofs.Mapping.{reach-all, reach-few}
+use Rattle.dstm_structures.specs.Maps.{Reaches}
+use Rattle.dstm_structures.proofs.Looking.{does-shown, goes-notes}
 use Rattle.dstm_structures.proofs.map.HashMap.reach.Goals as goal
 
-pub returns-then-told-from-clause-reaches : goal.returns-then-told-from-clause-reaches
-returns-then-told-from-clause-reaches g c =
-    does-as (does-read c.in_ok-told.ensures.gets)
-    (λ before after size. reach-few c.args.self c.args.home c.reach_at.result.object c.in_ok-told.told c.in_ok-told.told before
-    after c.reach_at.ensures (omega (arith, c.if-told-from.true, c.from.ensures)) refl)
+pub returns-in_err-reach-clause-notes : goal.returns-in_err-reach-clause-notes
+returns-in_err-reach-clause-notes g c = goes-notes c.in_err-reach.ensures.stays
 
-pub returns-else-told-from-clause-reaches : goal.returns-else-told-from-clause-reaches
-returns-else-told-from-clause-reaches g c =
-    does-as (does-read c.in_ok-told.ensures.gets)
-    (λ before after size. reach-all c.args.self c.args.home c.reach_at.result.object c.in_ok-told.told before after
-    c.reach_at.ensures (omega (arith, c.if-told-from.false, c.from.ensures)))
+pub returns-clause-notes : goal.returns-clause-notes
+returns-clause-notes g c = goes-notes c.in_ok-reach.ensures.stays
+
+pub returns-clause-reaches : goal.returns-clause-reaches
+returns-clause-reaches g c = does-shown (Reaches c.args.self c.args.home c.in_ok-reach.reach) c.in_ok-reach.ensures.stays c.in_ok-reach.ensures.reaches

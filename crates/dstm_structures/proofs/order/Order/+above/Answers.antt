@@ -1,5 +1,5 @@
 use Rattle.std.proofs.Common.{◌∙◌, ℕ, ◌/◌, ◌^◌, arith, refl, subst, sym}
-use Rattle.std.specs.Prelude.{Option, false}
+use Rattle.std.specs.Prelude.{Option}
 use Rattle.dstm_structures.specs.Effects.{Does}
 use Rattle.dstm_structures.specs.Orders.{Follows, IsNext, order_end}
 use Rattle.dstm_structures.proofs.Doing.{does-as, does-read, does-still, does-then, does-thrice}

@@ -1,0 +1,118 @@
+// Looks at the cells of a map: by a transaction under way, or between runs.
+ghost use Rattle.std.specs.Prelude.{◌≡◌, ◌<◌, ℕ, Bool, List, length, false, true, IfErr, IfOk, OnOk};
+ghost use Rattle.dstm_cells.specs.Alternatives.{noting};
+ghost use Rattle.dstm_model.specs.Map.{value_at};
+ghost use Rattle.dstm_model.specs.declared.value.Val.{Val};
+ghost use Rattle.dstm_structures.specs.Effects.{Stops};
+ghost use Rattle.dstm_structures.specs.Looks.{GoesOn, Shows, StandsAt, StandsSomewhere};
+
+use dstm_cells::{Cell, Failed, Memory, Stop, Tx, Word};
+use dstm_model::Law;
+use std::alloc::AllocError;
+
+// What looks at cells.
+pub(crate) trait Looks {
+    // Why a look fails.
+    type Err;
+
+    // It stands at these values, if it has begun at this map.
+    ghost Stands: { Self → List Val → List Val → Type 0 };
+
+    // It has only looked, and stands where it stood.
+    ghost Stays: { Self → Self → Type 0 };
+
+    // Why looks at cells among so many fail; and whether a list is made, for which there may not be enough memory.
+    ghost Fails: { (lists : Bool) → ℕ → Self → Self.Err → Type 0 };
+
+    // What a cell holds.
+    fn look<T: Word>(&mut self, cell: Cell<T>) -> Result<T, Self::Err>
+        ensures stays { Stays self.old self.new }
+        ensures fails { IfErr result (λ why. (size : ℕ) → cell.object < size → Fails false size self.old why) }
+        ensures is { IfOk result (λ value. Shows Stands (λ values. value ≡ T.found (value_at values cell.object)) self.new) }
+        ensures may { OnOk result (StandsSomewhere Stands self.new) };
+
+    // There is not enough memory for a list.
+    fn lacks(error: AllocError) -> Self::Err
+        ensures { (size : ℕ) (by : Self) → Fails true size by result };
+
+    ghost still: { (k : Self) → Stays k k };
+
+    ghost again: { (k m n : Self) → Stays k m → Stays m n → Stays k n };
+
+    ghost narrows: { (k n : Self) (map values : List Val) → Stays k n → Stands n map values → Stands k map values };
+
+    ghost fails_later: { (lists : Bool) (size : ℕ) (k m : Self) (why : Self.Err) → Stays k m → Fails lists size m why →
+        Fails lists size k why };
+
+    ghost fails_listing: { (size : ℕ) (k : Self) (why : Self.Err) → Fails false size k why → Fails true size k why };
+}
+
+impl<L: Law> Looks for Tx<'_, L> {
+    ghost use Rattle.dstm_structures.specs.Looks.{goes-again, goes-narrows, goes-still, goes-stops, stops-listing};
+
+    type Err = Stop;
+
+    ghost Stands = { λ tx. StandsAt L.holds (noting tx) };
+
+    ghost Stays = { λ old new. GoesOn L.holds (noting old) (noting new) };
+
+    ghost Fails = { λ lists size tx stop. Stops size lists tx.attempts.caller stop.why };
+
+    fn look<T: Word>(&mut self, cell: Cell<T>) -> Result<T, Stop> {
+        let value = self.get(cell)?;
+        Ok(value)
+    }
+
+    fn lacks(error: AllocError) -> Stop {
+        Stop::from(error)
+    }
+
+    ghost still = { λ k. goes-still L.holds (noting k) };
+
+    ghost again = { λ k m n. goes-again L.holds (noting k) (noting m) (noting n) };
+
+    ghost narrows = { λ k n. goes-narrows L.holds (noting k) (noting n) };
+
+    ghost fails_later = { λ lists size k m stop. goes-stops L.holds lists size (noting k) (noting m) stop.why };
+
+    ghost fails_listing = { λ size k stop. stops-listing L.holds size (noting k) stop.why };
+}
+
+// A memory between runs.
+#[derive(Clone, Copy)]
+pub(crate) struct Between<'a, L: Law> {
+    pub(crate) memory: &'a Memory<L>,
+}
+
+impl<L: Law + Copy> Looks for Between<'_, L> {
+    ghost use Rattle.std.proofs.Common.{◌∙◌, ap, refl, subst, sym};
+    ghost use Rattle.dstm_structures.specs.Looks.{FailsBetween, between-listing};
+
+    type Err = Failed;
+
+    ghost Stands = { λ by map values. by.memory.now.values.items ≡ values };
+
+    ghost Stays = { λ old new. new ≡ old };
+
+    ghost Fails = { λ lists size by why. FailsBetween lists size (length by.memory.now.values.items) why };
+
+    fn look<T: Word>(&mut self, cell: Cell<T>) -> Result<T, Failed> {
+        let value = self.memory.get(cell)?;
+        Ok(value)
+    }
+
+    fn lacks(error: AllocError) -> Failed {
+        Failed::from(error)
+    }
+
+    ghost still = { λ k. refl };
+
+    ghost again = { λ k m n one two. two ∙ one };
+
+    ghost narrows = { λ k n map values stays at. ap (λ b. b.memory.now.values.items) (sym stays) ∙ at };
+
+    ghost fails_later = { λ lists size k m why stays. subst
+        (λ b. FailsBetween lists size (length b.memory.now.values.items) why) stays };
+
+    ghost fails_listing = { λ size k why. between-listing size (length k.memory.now.values.items) why };
+}
