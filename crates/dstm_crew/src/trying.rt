@@ -35,9 +35,10 @@ pub fn try_job(
 {
     let mut turns: u32 = 1;
     loop {
-        match attempt_job(style, RECHECKS, caller, table, layout, job) {
+        let tried = attempt_job(style, RECHECKS, caller, table, layout, job);
+        match &tried {
             Tried::Done(finished) => {
-                all.push(&finished);
+                all.push(finished);
                 return Ok(());
             }
             Tried::Spent => return Err(Left::Spent),
