@@ -4,7 +4,7 @@ ghost use Rattle.dstm_model.specs.Objects.{objects_of, IsBank};
 ghost use Rattle.dstm_mem.specs.Operations.{IsReady};
 
 use crate::counting::{Counting, opened};
-use crate::operations::{BANK, pay};
+use crate::operations::{BANK, fits, pay};
 use dstm_bank::{balance, total, transfer};
 use dstm_mem::Mem;
 use dstm_model::{Layout, Op, Reply, Val};
@@ -43,16 +43,33 @@ fn answer(mem: &mut Counting, layout: &Layout, op: Op) -> Reply
     }
 }
 
+// The first row of an operation and its answer that says something else, of these made one after the other.
+fn first_other(mem: &mut Counting, layout: &Layout, rows: &[(Op, Reply)]) -> Option<usize>
+    requires valid { IsValid layout.now }
+    requires bank { FitsLayout layout.now Op.Total }
+    requires ready { IsReady ⟦<Counting as Mem>⟧ (objects_of layout.now) (IsBank layout.now) mem.old }
+{
+    for (i, row) in rows.iter().enumerate() {
+        let (op, wanted) = *row;
+        if !fits(layout, &op) || answer(mem, layout, op) != wanted {
+            return Some(i);
+        }
+    }
+    None
+}
+
 #[test]
 fn money_moves(rt: HostRuntime) -> Result<(), Fail> {
     let mut mem = opened(rt.alloc(), &BANK)?;
-    assert!(rt; answer(&mut mem, &BANK, pay(0, 1, 30)) == Reply::Moved);
-    assert!(rt; answer(&mut mem, &BANK, pay(0, 1, 71)) == Reply::Poor);
-    assert!(rt; answer(&mut mem, &BANK, pay(1, 1, 130)) == Reply::Moved);
-    assert!(rt; answer(&mut mem, &BANK, pay(0, 0, 71)) == Reply::Poor);
-    let told = answer(&mut mem, &BANK, Op::Balance { account: 1 });
-    assert!(rt; told == Reply::Number(130));
-    assert!(rt; answer(&mut mem, &BANK, Op::Total) == Reply::Number(200));
+    let rows = [
+        (pay(0, 1, 30), Reply::Moved),
+        (pay(0, 1, 71), Reply::Poor),
+        (pay(1, 1, 130), Reply::Moved),
+        (pay(0, 0, 71), Reply::Poor),
+        (Op::Balance { account: 1 }, Reply::Number(130)),
+        (Op::Total, Reply::Number(200)),
+    ];
+    assert!(rt; first_other(&mut mem, &BANK, &rows) == None);
     let after = [Val { low: 70, high: 0 }, Val { low: 130, high: 0 }];
     let (_, values) = mem.end();
     assert!(rt; values.as_slice() == after.as_slice());

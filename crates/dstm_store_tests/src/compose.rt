@@ -3,7 +3,7 @@ ghost use Rattle.dstm_model.specs.Layout.{IsValid};
 ghost use Rattle.dstm_store.specs.Whole.{IsLawful};
 
 use crate::counting::{Counting, Counts, run_body};
-use crate::operations::{BANK, NOTHING, OF_EACH, ops_of, pay, pick, plain_of};
+use crate::operations::{BANK, NOTHING, OF_EACH, answers, ops_of, pay, pick, plain_of, same_state};
 use dstm_compose::{CompBody, Outcome};
 use dstm_mem::LooseBody;
 use dstm_model::{Cond, Layout, Op, PlainStore, Replies, Reply, State, Val, Which};
@@ -62,15 +62,6 @@ fn replies_of(outcome: Outcome) -> Option<Replies> {
     match outcome {
         Outcome::Ran(replies) => Some(replies),
         Outcome::Blocked => None,
-    }
-}
-
-// Tells whether a job has these replies, or is blocked as it should be.
-fn answers(replies: &Option<Replies>, wanted: Option<&[Reply]>) -> bool {
-    match (replies, wanted) {
-        (Some(replies), Some(wanted)) => replies.as_slice() == wanted,
-        (None, None) => true,
-        _ => false,
     }
 }
 
@@ -153,10 +144,7 @@ fn run_beside(alloc: Global, layout: &Layout, jobs: u32) -> Result<(u32, u32), A
         let (all, _loose, left) = run_job(alloc, layout, after, Style::Releasing, &job)?;
         let plain = store.apply_job(&plain_of(layout, &job))?;
         let state = read_state(alloc, layout, &left)?;
-        let holds = store.state(alloc)?;
-        let is_held = state.bank.as_slice() == holds.bank.as_slice()
-            && state.list.as_slice() == holds.list.as_slice()
-            && state.tree.as_slice() == holds.tree.as_slice();
+        let is_held = same_state(&state, &store.state(alloc)?);
         if answers(&chosen, wanted.as_ref().map(|replies| replies.as_slice()))
             && answers(&all, plain.as_ref().map(|replies| replies.as_slice()))
             && is_held

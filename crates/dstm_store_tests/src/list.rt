@@ -6,7 +6,7 @@ ghost use Rattle.dstm_mem.specs.Operations.{IsReady};
 ghost use Rattle.dstm_list.specs.List.{IsList};
 
 use crate::counting::{Counting, opened};
-use crate::operations::NOTHING;
+use crate::operations::{NOTHING, fits};
 use dstm_list::{insert, member, remove};
 use dstm_mem::Mem;
 use dstm_model::{Layout, Op, Reply, Val, Which};
@@ -47,6 +47,21 @@ fn answer(mem: &mut Counting, layout: &Layout, step: Step, key: u32) -> Reply
     }
 }
 
+// The first row of a step, its key and its answer that says something else, of these made one after the other.
+fn first_other(mem: &mut Counting, layout: &Layout, rows: &[(Step, u32, Reply)]) -> Option<usize>
+    requires valid { IsValid layout.now }
+    requires ready { IsReady ⟦<Counting as Mem>⟧ (objects_of layout.now) (IsList layout.now) mem.old }
+{
+    let which = Which::List;
+    for (i, row) in rows.iter().enumerate() {
+        let (step, key, wanted) = *row;
+        if !fits(layout, &Op::Member { which, key }) || answer(mem, layout, step, key) != wanted {
+            return Some(i);
+        }
+    }
+    None
+}
+
 // Room for two keys, behind one account.
 const TWO: Layout = Layout {
     accounts: 1,
@@ -58,15 +73,18 @@ const TWO: Layout = Layout {
 #[test]
 fn two_keys_fill_the_list(rt: HostRuntime) -> Result<(), Fail> {
     let mut mem = opened(rt.alloc(), &TWO)?;
-    assert!(rt; answer(&mut mem, &TWO, Step::Member, 0) == Reply::No);
-    assert!(rt; answer(&mut mem, &TWO, Step::Insert, 9) == Reply::Yes);
-    assert!(rt; answer(&mut mem, &TWO, Step::Insert, 4) == Reply::Yes);
-    assert!(rt; answer(&mut mem, &TWO, Step::Insert, 6) == Reply::Full);
-    assert!(rt; answer(&mut mem, &TWO, Step::Insert, 9) == Reply::No);
-    assert!(rt; answer(&mut mem, &TWO, Step::Member, 9) == Reply::Yes);
-    assert!(rt; answer(&mut mem, &TWO, Step::Remove, 9) == Reply::Yes);
-    assert!(rt; answer(&mut mem, &TWO, Step::Remove, 9) == Reply::No);
-    assert!(rt; answer(&mut mem, &TWO, Step::Insert, 0) == Reply::Yes);
+    let rows = [
+        (Step::Member, 0, Reply::No),
+        (Step::Insert, 9, Reply::Yes),
+        (Step::Insert, 4, Reply::Yes),
+        (Step::Insert, 6, Reply::Full),
+        (Step::Insert, 9, Reply::No),
+        (Step::Member, 9, Reply::Yes),
+        (Step::Remove, 9, Reply::Yes),
+        (Step::Remove, 9, Reply::No),
+        (Step::Insert, 0, Reply::Yes),
+    ];
+    assert!(rt; first_other(&mut mem, &TWO, &rows) == None);
     // Node 1 holds the key 0 and links to node 2, which holds the key 4.
     let after = [100, 1, 0, 2, 4 * 2_048].map(|low| Val { low, high: 0 });
     let (_, values) = mem.end();

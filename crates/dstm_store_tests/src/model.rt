@@ -1,9 +1,12 @@
-use crate::operations::{BANK, pay};
+ghost use Rattle.std.specs.Prelude.{◌≡◌, ◌<◌};
+
+use crate::operations::{BANK, answers, ops_of, pay};
 use dstm_model::{Cond, Item, Items, Layout, Numbers, Op, Ops, PlainStore, Replies, Reply, Which};
+use std::alloc::AllocError;
 use std::test::Fail;
 
 #[test]
-fn lists_keep_their_order(rt: HostRuntime) -> Result<(), Fail> {
+fn lists_keep_their_order(rt: HostRuntime) {
     let mut ops = Ops::new();
     ops.push(Op::Total);
     ops.push(Op::Get { key: 7 });
@@ -12,6 +15,10 @@ fn lists_keep_their_order(rt: HostRuntime) -> Result<(), Fail> {
     let mut replies = Replies::new();
     replies.push(Reply::Number(9));
     assert!(rt; replies.as_slice() == [Reply::Number(9)].as_slice());
+}
+
+#[test]
+fn items_and_numbers_keep_their_order(rt: HostRuntime) -> Result<(), Fail> {
     let item = Item { key: 3, value: 4 };
     let items = Items::from_vec(vec![in rt.alloc(); item]?);
     assert!(rt; items.as_slice() == [item].as_slice());
@@ -20,39 +27,72 @@ fn lists_keep_their_order(rt: HostRuntime) -> Result<(), Fail> {
     Ok(())
 }
 
+// Applies a job, and tells whether it has these replies, or is blocked as it should be.
+fn is_so(
+    store: &mut PlainStore,
+    layout: &Layout,
+    job: &[Op],
+    wanted: Option<&[Reply]>,
+) -> Result<bool, AllocError>
+    requires layout { store.old.layout ≡ layout.now }
+    ensures layout { store.new.layout ≡ layout.now }
+{
+    let replies = store.apply_job(&ops_of(layout, job))?;
+    Ok(answers(&replies, wanted))
+}
+
 #[test]
 fn jobs_take_their_first_open_branch(rt: HostRuntime) -> Result<(), Fail> {
-    let layout = Layout { list: 1, ..BANK };
-    let mut store = PlainStore::opening(rt.alloc(), &layout)?;
-    let mut ops = Ops::new();
-    ops.push(Op::Await(Cond::Balance {
+    let mut store = PlainStore::opening(rt.alloc(), &BANK)?;
+    let first = Op::Await(Cond::Balance {
         account: 0,
         least: 150,
-    }));
-    ops.push(Op::Total);
-    assert!(rt; store.apply_job(&ops)?.is_none());
-    ops.push(Op::OrElse);
-    ops.push(pay(1, 0, 60));
-    ops.push(Op::OrElse);
-    ops.push(Op::Balance { account: 1 });
-    let moved = store.apply_job(&ops)?.ok_or("an open branch")?;
-    assert!(rt; moved.as_slice() == [Reply::Moved].as_slice());
-    let told = store.apply_job(&ops)?.ok_or("an open branch")?;
-    assert!(rt; told.as_slice() == [Reply::Yes, Reply::Number(200)].as_slice());
+    });
+    let moves = [
+        first,
+        Op::Total,
+        Op::OrElse,
+        pay(1, 0, 60),
+        Op::OrElse,
+        Op::Balance { account: 1 },
+    ];
+    let moved = [Reply::Moved];
+    let told = [Reply::Yes, Reply::Number(200)];
+    assert!(rt; is_so(&mut store, &BANK, &[first, Op::Total], None)?);
+    assert!(rt; is_so(&mut store, &BANK, &moves, Some(&moved))?);
+    assert!(rt; is_so(&mut store, &BANK, &moves, Some(&told))?);
     let state = store.state(rt.alloc())?;
     assert!(rt; state.bank.as_slice() == [160, 40].as_slice());
-    let mut waits = Ops::new();
-    waits.push(Op::Await(Cond::Key {
-        which: Which::List,
-        key: 5,
-    }));
-    assert!(rt; store.apply_job(&waits)?.is_none());
-    assert!(rt; store.is_blocked(&waits));
-    store.apply(&Op::Insert {
-        which: Which::List,
-        key: 5,
-    })?;
-    let there = store.apply_job(&waits)?.ok_or("an open branch")?;
-    assert!(rt; there.as_slice() == [Reply::Yes].as_slice());
+    Ok(())
+}
+
+// Adds the key 5 to the list.
+fn add_five(store: &mut PlainStore, layout: &Layout) -> Result<(), AllocError>
+    requires list { 0 < store.old.layout.list }
+    requires layout { store.old.layout ≡ layout.now }
+    ensures layout { store.new.layout ≡ layout.now }
+{
+    let which = Which::List;
+    store.apply(&Op::Insert { which, key: 5 })?;
+    Ok(())
+}
+
+// Tells whether the store would leave this job blocked.
+fn is_blocked(store: &PlainStore, layout: &Layout, job: &[Op]) -> bool
+    requires { store.now.layout ≡ layout.now }
+{
+    store.is_blocked(&ops_of(layout, job))
+}
+
+#[test]
+fn a_job_waits_for_a_key(rt: HostRuntime) -> Result<(), Fail> {
+    let layout = Layout { list: 1, ..BANK };
+    let mut store = PlainStore::opening(rt.alloc(), &layout)?;
+    let which = Which::List;
+    let waits = [Op::Await(Cond::Key { which, key: 5 })];
+    assert!(rt; is_so(&mut store, &layout, &waits, None)?);
+    assert!(rt; is_blocked(&store, &layout, &waits));
+    add_five(&mut store, &layout)?;
+    assert!(rt; is_so(&mut store, &layout, &waits, Some(&[Reply::Yes]))?);
     Ok(())
 }

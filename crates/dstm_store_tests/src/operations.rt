@@ -2,7 +2,7 @@ ghost use Rattle.std.specs.Prelude.{◌≡◌, All, IsTrue};
 ghost use Rattle.dstm_model.specs.Layout.{FitsLayout, FitsCond, FitsKey};
 ghost use Rattle.dstm_model.specs.Store.{IsPlain};
 
-use dstm_model::{AMOUNT_LIMIT, Cond, KEY_LIMIT, Layout, Op, Ops, Which};
+use dstm_model::{AMOUNT_LIMIT, Cond, KEY_LIMIT, Layout, Op, Ops, Replies, Reply, State, Which};
 
 /// The layout of nothing, to which a test adds what it is about.
 pub(crate) const NOTHING: Layout = Layout {
@@ -117,6 +117,22 @@ pub(crate) fn plain_of(layout: &Layout, list: &[Op]) -> Ops
         }
     }
     ops
+}
+
+/// Tells whether a job has these replies, or is blocked as it should be.
+pub(crate) fn answers(replies: &Option<Replies>, wanted: Option<&[Reply]>) -> bool {
+    match (replies, wanted) {
+        (Some(replies), Some(wanted)) => replies.as_slice() == wanted,
+        (None, None) => true,
+        _ => false,
+    }
+}
+
+/// Tells whether both have the same balances, keys and values.
+pub(crate) fn same_state(one: &State, other: &State) -> bool {
+    one.bank.as_slice() == other.bank.as_slice()
+        && one.list.as_slice() == other.list.as_slice()
+        && one.tree.as_slice() == other.tree.as_slice()
 }
 
 /// An operation on one of three accounts, or on one of ten keys.

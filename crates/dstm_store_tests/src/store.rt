@@ -7,7 +7,7 @@ ghost use Rattle.dstm_store.specs.Whole.{StandsFor, IsLawful};
 ghost use Rattle.dstm_store.specs.Job.{DoesAll};
 
 use crate::counting::{Counting, NO_OPENS, Opens, opened, run_body};
-use crate::operations::{BANK, NOTHING, OF_EACH, can_run, pay, pick, plain_of};
+use crate::operations::{BANK, NOTHING, OF_EACH, can_run, pay, pick, plain_of, same_state};
 use dstm_mem::Mem;
 use dstm_model::{Item, Layout, Op, Ops, PlainStore, Replies, Reply, State, Val, Which};
 use dstm_store::{JobBody, StoreLaw, opening, read_state, run_op, stands_for_one};
@@ -111,9 +111,7 @@ fn operations_answer_as_the_plain_store_does(rt: HostRuntime) -> Result<(), Fail
     let (replies, state) = run_each(rt.alloc(), &OF_EACH, &ops)?;
     let (wanted, holds) = run_plain(rt.alloc(), &OF_EACH, &ops)?;
     assert!(rt; replies.as_slice() == wanted.as_slice());
-    assert!(rt; state.bank.as_slice() == holds.bank.as_slice());
-    assert!(rt; state.list.as_slice() == holds.list.as_slice());
-    assert!(rt; state.tree.as_slice() == holds.tree.as_slice());
+    assert!(rt; same_state(&state, &holds));
     Ok(())
 }
 
@@ -283,6 +281,29 @@ fn on_all_keys(alloc: Global, kind: Kind, leap: u8) -> Result<Vec<Op>, AllocErro
     Ok(ops)
 }
 
+// Operations on all keys, in an order that leaps so, and how many objects each opens at most for reading and for writing.
+type Sweep = (Kind, u8, u32, u32);
+
+// Tells whether these open no more, one after the other.
+fn all_open_at_most(
+    alloc: Global,
+    mem: &mut Counting,
+    layout: &Layout,
+    sweeps: &[Sweep],
+) -> Result<bool, AllocError>
+    requires valid { IsValid layout.now }
+    requires ready { IsReady ⟦<Counting as Mem>⟧ (objects_of layout.now) (StandsFor layout.now) mem.old }
+{
+    for sweep in sweeps {
+        let (kind, leap, reads, writes) = *sweep;
+        let ops = on_all_keys(alloc, kind, leap)?;
+        if !opens_at_most(mem, layout, &ops, reads, writes) {
+            return Ok(false);
+        }
+    }
+    Ok(true)
+}
+
 // The height of a tree of 1,023 nodes is at most 20: a search reads as many nodes, and the object that names the
 // root. What is added reads the head of the free chain and a free node besides, and sets at most one object a
 // level and five more.
@@ -293,21 +314,16 @@ fn few_objects_of_a_large_tree_are_opened(rt: HostRuntime) -> Result<(), Fail> {
         ..NOTHING
     };
     let mut mem = opened(rt.alloc(), &layout)?;
-    let alloc = rt.alloc();
-    let ops = on_all_keys(alloc, Kind::Insert, 37)?;
-    assert!(rt; opens_at_most(&mut mem, &layout, &ops, 23, 25));
-    let ops = on_all_keys(alloc, Kind::Insert, 2)?;
-    assert!(rt; opens_at_most(&mut mem, &layout, &ops, 21, 0));
-    let ops = on_all_keys(alloc, Kind::Member, 5)?;
-    assert!(rt; opens_at_most(&mut mem, &layout, &ops, 21, 0));
-    let ops = on_all_keys(alloc, Kind::Get, 7)?;
-    assert!(rt; opens_at_most(&mut mem, &layout, &ops, 21, 0));
-    let ops = on_all_keys(alloc, Kind::Put, 10)?;
-    assert!(rt; opens_at_most(&mut mem, &layout, &ops, 21, 1));
-    let ops = on_all_keys(alloc, Kind::Remove, 101)?;
-    assert!(rt; opens_at_most(&mut mem, &layout, &ops, 28, 12));
-    let ops = on_all_keys(alloc, Kind::Remove, 4)?;
-    assert!(rt; opens_at_most(&mut mem, &layout, &ops, 1, 0));
+    let sweeps = [
+        (Kind::Insert, 37, 23, 25),
+        (Kind::Insert, 2, 21, 0),
+        (Kind::Member, 5, 21, 0),
+        (Kind::Get, 7, 21, 0),
+        (Kind::Put, 10, 21, 1),
+        (Kind::Remove, 101, 28, 12),
+        (Kind::Remove, 4, 1, 0),
+    ];
+    assert!(rt; all_open_at_most(rt.alloc(), &mut mem, &layout, &sweeps)?);
     Ok(())
 }
 

@@ -5,7 +5,7 @@ ghost use Rattle.dstm_mem.specs.Operations.{IsReady};
 ghost use Rattle.dstm_tree.specs.Objects.{IsTree};
 
 use crate::counting::{Counting, opened};
-use crate::operations::NOTHING;
+use crate::operations::{NOTHING, fits};
 use dstm_mem::Mem;
 use dstm_model::{Layout, Op, Reply, Val, Which};
 use dstm_tree::{get, height_is_logarithmic, insert, member, put, remove};
@@ -52,6 +52,19 @@ fn answer(mem: &mut Counting, op: Op) -> Reply
         Ok(reply) => reply,
         Err(never) => match never {},
     }
+}
+
+// The first row of an operation and its answer that says something else, of these made one after the other.
+fn first_other(mem: &mut Counting, rows: &[(Op, Reply)]) -> Option<usize>
+    requires { IsReady ⟦<Counting as Mem>⟧ (objects_of LAYOUT) (IsTree LAYOUT) mem.old }
+{
+    for (i, row) in rows.iter().enumerate() {
+        let (op, wanted) = *row;
+        if !fits(&LAYOUT, &op) || answer(mem, op) != wanted {
+            return Some(i);
+        }
+    }
+    None
 }
 
 // What a map with room for eight keys answers.
@@ -117,16 +130,24 @@ fn operations_answer_as_a_map_does(rt: HostRuntime) -> Result<(), Fail> {
 fn a_full_tree_has_room_again_after_a_removal(rt: HostRuntime) -> Result<(), Fail> {
     let which = Which::Tree;
     let mut mem = opened(rt.alloc(), &LAYOUT)?;
-    for key in 1..9 {
-        assert!(rt; answer(&mut mem, Op::Insert { which, key }) == Reply::Yes);
-    }
-    assert!(rt; answer(&mut mem, Op::Insert { which, key: 9 }) == Reply::Full);
-    assert!(rt; answer(&mut mem, Op::Insert { which, key: 4 }) == Reply::No);
-    assert!(rt; answer(&mut mem, Op::Remove { which, key: 2 }) == Reply::Yes);
-    assert!(rt; answer(&mut mem, Op::Remove { which, key: 2 }) == Reply::No);
-    assert!(rt; answer(&mut mem, Op::Insert { which, key: 9 }) == Reply::Yes);
-    assert!(rt; answer(&mut mem, Op::Member { which, key: 9 }) == Reply::Yes);
-    assert!(rt; answer(&mut mem, Op::Member { which, key: 2 }) == Reply::No);
+    let rows = [
+        (Op::Insert { which, key: 1 }, Reply::Yes),
+        (Op::Insert { which, key: 2 }, Reply::Yes),
+        (Op::Insert { which, key: 3 }, Reply::Yes),
+        (Op::Insert { which, key: 4 }, Reply::Yes),
+        (Op::Insert { which, key: 5 }, Reply::Yes),
+        (Op::Insert { which, key: 6 }, Reply::Yes),
+        (Op::Insert { which, key: 7 }, Reply::Yes),
+        (Op::Insert { which, key: 8 }, Reply::Yes),
+        (Op::Insert { which, key: 9 }, Reply::Full),
+        (Op::Insert { which, key: 4 }, Reply::No),
+        (Op::Remove { which, key: 2 }, Reply::Yes),
+        (Op::Remove { which, key: 2 }, Reply::No),
+        (Op::Insert { which, key: 9 }, Reply::Yes),
+        (Op::Member { which, key: 9 }, Reply::Yes),
+        (Op::Member { which, key: 2 }, Reply::No),
+    ];
+    assert!(rt; first_other(&mut mem, &rows) == None);
     Ok(())
 }
 
@@ -134,14 +155,17 @@ fn a_full_tree_has_room_again_after_a_removal(rt: HostRuntime) -> Result<(), Fai
 fn a_key_has_the_value_that_was_put_last(rt: HostRuntime) -> Result<(), Fail> {
     let which = Which::Tree;
     let mut mem = opened(rt.alloc(), &LAYOUT)?;
-    assert!(rt; answer(&mut mem, Op::Put { key: 5, value: 9 }) == Reply::Yes);
-    assert!(rt; answer(&mut mem, Op::Put { key: 5, value: 8 }) == Reply::No);
-    assert!(rt; answer(&mut mem, Op::Get { key: 5 }) == Reply::Number(8));
-    assert!(rt; answer(&mut mem, Op::Get { key: 6 }) == Reply::Absent);
-    assert!(rt; answer(&mut mem, Op::Insert { which, key: 5 }) == Reply::No);
-    assert!(rt; answer(&mut mem, Op::Insert { which, key: 6 }) == Reply::Yes);
-    assert!(rt; answer(&mut mem, Op::Get { key: 5 }) == Reply::Number(8));
-    assert!(rt; answer(&mut mem, Op::Get { key: 6 }) == Reply::Number(0));
+    let rows = [
+        (Op::Put { key: 5, value: 9 }, Reply::Yes),
+        (Op::Put { key: 5, value: 8 }, Reply::No),
+        (Op::Get { key: 5 }, Reply::Number(8)),
+        (Op::Get { key: 6 }, Reply::Absent),
+        (Op::Insert { which, key: 5 }, Reply::No),
+        (Op::Insert { which, key: 6 }, Reply::Yes),
+        (Op::Get { key: 5 }, Reply::Number(8)),
+        (Op::Get { key: 6 }, Reply::Number(0)),
+    ];
+    assert!(rt; first_other(&mut mem, &rows) == None);
     // The root and the free node are 1 and 3; node 1 is black and has key 5, node 2 on its right is red.
     let (_, values) = mem.end();
     let parts = [

@@ -6,10 +6,10 @@ use Rattle.dstm_mem.specs.Flat.{written_in}
 use Rattle.dstm_mem.specs.Memory.{with_set}
 use Rattle.dstm_store_tests.specs.declared.tree.TheConstants.{LAYOUT}
 use Rattle.dstm_tree.specs.Objects.{IsTree}
-use Rattle.dstm_store_tests.proofs.tree.a_full_tree_has_room_again_after_a_removal.Given as goal
+use Rattle.dstm_store_tests.proofs.tree.first_other.Given as goal
 
-abbrev pub invariant-loop-key : goal.invariant-loop-key
-invariant-loop-key g l = record {
+abbrev pub invariant-loop-i : goal.invariant-loop-i
+invariant-loop-i l = record {
   objects : length l.mem.mem.values.items ≡ objects_of LAYOUT;
   lawful : (map : List Val) → map ≡ l.mem.mem.values.items → (store : Store) ×
       IsTree LAYOUT (with_set map (written_in l.mem.mem.notes.items)) store;
