@@ -7,27 +7,21 @@ use Rattle.dstm_engine.proofs.Base.{AloneBound, AloneCommits, AreCalls, AreOf, B
 use Rattle.dstm_machines.proofs.Attempts.{log_parts}
 use Rattle.dstm_managers.specs.Meetings.{most_turns}
 use Rattle.dstm_order.specs.Counts.{Counts, counted, counts_after, counts_of}
+use Rattle.dstm_progress.proofs.Beginnings.{begin_kind}
+use Rattle.dstm_progress.proofs.Others.{all_own}
 use Rattle.dstm_progress.specs.Alone.{is_open}
 use Rattle.dstm_engine.specs.Callers.{Called, begun_log, shape_of, since_begin, state}
 use Rattle.dstm_engine.specs.Calls.{IsTold}
 use Rattle.dstm_engine.specs.Outcomes as outcomes
-
-all_of : (c : ℕ) (es : List Event) → AreOf c es → events_of c es ≡ es
-all_of c [] h = refl
-all_of c (e ∷ es) h = rw (eq-eqb e.caller c h.0, all_of c es h.1) refl
 
 -- where no other made a step since, the events since the Begin are those of the calls
 since_is : (c : ℕ) (log calls : List Event) → events_of c log ≡ calls ++ events_of c (begun_log c log) →
     AreOf c (since_begin c log) → since_begin c log ≡ calls
 since_is c log calls told own =
     append_cancel_right (since_begin c log) calls (events_of c (begun_log c log))
-    (ap (λ xs. xs ++ events_of c (begun_log c log)) (sym (all_of c (since_begin c log) own))
+    (ap (λ xs. xs ++ events_of c (begun_log c log)) (sym (all_own c (since_begin c log) own))
     ∙ sym (filter-append (λ (e : Event). e.caller == c) (since_begin c log) (begun_log c log))
     ∙ ap (events_of c) (sym (log_parts is_begin c log)) ∙ told)
-
-is_kind : (k : Kind) → is_begin k ≡ true → k ≡ Begin
-is_kind Begin h = refl
-is_kind k h = absurd (cc)
 
 -- what stood at the last Begin, if there is one
 pub record Begun (c : ℕ) (log : List Event) : Type 0 where
@@ -44,7 +38,7 @@ begun_at c (e ∷ log) h = go (begun_at c log) (cases_Bool ((e.caller == c) && i
     go : ((begun_log c log ≡ [] → ⊥) → Begun c log) →
         ((e.caller == c) && is_begin e.kind ≡ true) ⊎ ((e.caller == c) && is_begin e.kind ≡ false) → Begun c (e ∷ log)
     go ih (inl q) = let two = and_parts (e.caller == c) (is_begin e.kind) q in
-        record { begin = e; before = log; is = rw q refl; kind = is_kind e.kind two.1; own = eqb-true e.caller c two.0 }
+        record { begin = e; before = log; is = rw q refl; kind = begin_kind e.kind two.1; own = eqb-true e.caller c two.0 }
     go ih (inr q) = let b = ih (λ z. h (rw q z)) in
         record { begin = b.begin; before = b.before; is = rw q b.is; kind = b.kind; own = b.own }
 

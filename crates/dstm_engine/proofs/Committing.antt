@@ -5,12 +5,13 @@ use Rattle.std.specs.Prelude.{All, is_some, slice_index_or, unwrap_or}
 use Rattle.std.proofs.lemmas.Bool.{cases_Bool, eq-eqb, eqb-true}
 use Rattle.std.proofs.lemmas.Nat.{mul-le}
 use Rattle.dstm_engine.proofs.Base.{Agrees, AgreesWith, AreWrites, Committing, Doing, Event, Home, InTask, IsLawful, LocalState, Read, Shape, Steps, Val, Write, WriteSlot, answer, caller_state, due, effort_by, entry_of, in_putting, is_outside, no_value, now, number_or, or_old, puts_of, read_values, seen, to_put, value_in, view_of, with_set, with_writes, write_of}
+use Rattle.dstm_steps.proofs.Puts.{slots_length}
 use Rattle.dstm_steps.proofs.Ranged.{few_locators}
 use Rattle.dstm_steps.proofs.Stepping.{began_as}
 use Rattle.dstm_core.proofs.Static.{static}
 use Rattle.dstm_opacity.proofs.Tidy.{Apart, WritesOnce, tidy}
 use Rattle.dstm_engine.proofs.Holding.{old_there}
-use Rattle.dstm_engine.proofs.Opens.{none_of, unset, writes_length}
+use Rattle.dstm_engine.proofs.Opens.{none_of, unset}
 use Rattle.dstm_engine.proofs.Setting.{opened_slot, opened_there, with_new_apart}
 use Rattle.dstm_mem.proofs.Settling.{agrees_held, writes_same}
 use Rattle.dstm_engine.proofs.Tying.{now_there, olds_in, renewed, starts_there}
@@ -198,7 +199,7 @@ module _ {L : Type 0} {holds : L → List Val → Type 0} {c : Inside L} (v : Ti
     few =
         let st = static c.terms.shape (called c).log v.run.run.core c.number in
         let x = st.count in let y = v.mirror.installed in
-        let z = writes_length c.opened.writes (state (called c)).writes (v.writes live) in omega arith
+        let z = slots_length c.opened.writes (state (called c)).writes (v.writes live) in omega arith
 
     pub few_there : length slots ≤ steps.installed
     few_there = let x = few in let y = ap length listed in let z = ap (λ (s : Steps L). s.installed) is in omega arith
@@ -247,7 +248,7 @@ module _ {L : Type 0} {holds : L → List Val → Type 0} {c : Inside L} (v : Ti
           let i : steps.installed ≡ (now home steps).installed =
           ap (λ (s : Steps L). s.installed) is ∙ v.mirror.installed ∙ sym (ap (λ (l : LocalState). l.installed) was) in
           let n : length slots ≡ length (now home steps).writes =
-          ap length listed ∙ writes_length c.opened.writes (state (called c)).writes (v.writes live)
+          ap length listed ∙ slots_length c.opened.writes (state (called c)).writes (v.writes live)
           ∙ sym (ap (λ (l : LocalState). length l.writes) was) in
           ap (λ (s : Shape). c.number * s.locators + (steps.installed - length slots)) shape
           ∙ ap (λ m. m * home.terms.shape.locators + (steps.installed - length slots)) (sym number_is)

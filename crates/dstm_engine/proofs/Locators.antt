@@ -1,27 +1,15 @@
 -- An attempt that began with a locator for each object does not run out of them.
-use Rattle.std.proofs.Common.{◌++◌, ◌+◌, ◌≤◌, ◌∙◌, ◌∷◌, ◌≡◌, List, ap, arith, false, inl, inr, length, not, subst, sym, true, ℕ, refl}
+use Rattle.std.proofs.Common.{◌++◌, ◌+◌, ◌≤◌, ◌∙◌, ◌∷◌, ◌≡◌, List, ap, arith, false, length, not, subst, sym, ℕ, refl}
 use Rattle.std.specs.Prelude.{nat_lt}
 use Rattle.std.proofs.lemmas.Bool.Decides.{nat_tests}
 use Rattle.std.proofs.lemmas.Bool.{or_parts}
-use Rattle.dstm_engine.proofs.Base.{Begin, Event, LocalState, Shape, after, core, is_begin, is_spent, local}
-use Rattle.dstm_machines.proofs.Attempts.{kept_since, log_parts}
-use Rattle.dstm_core.proofs.Begun.{begun_how}
+use Rattle.dstm_engine.proofs.Base.{Begin, Event, LocalState, Shape, is_begin, is_spent, local}
+use Rattle.dstm_machines.proofs.Attempts.{log_parts}
 use Rattle.dstm_core.proofs.Spare.{locators_used}
 use Rattle.dstm_core.proofs.Static.{local_own}
 use Rattle.dstm_engine.proofs.Alone.{Begun}
+use Rattle.dstm_engine.proofs.BegunThere.{begun_there}
 use Rattle.dstm_engine.specs.Callers.{begun_log, since_begin}
-
--- only a Begin changes how many attempts a caller has begun
-same_begun : (s : Shape) (l : LocalState) (e : Event) → is_begin e.kind ≡ false →
-    (after e.kind s l e).begun ≡ l.begun
-same_begun s l e q = elim (begun_how s l e e.kind) [
-  | inl x ↦ absurd (let z : true ≡ false = rw x.0 at q in cc)
-  | inr x ↦ x.1
-]
-
--- so it is as it was at its last one
-begun_since : (s : Shape) (c : ℕ) (log : List Event) → (local s log c).begun ≡ (local s (begun_log c log) c).begun
-begun_since s = kept_since is_begin core s (λ (l : LocalState). l.begun) (same_begun s)
 
 begins_one : (s : Shape) (before : List Event) (e : Event) → e.kind ≡ Begin →
     (local s (e ∷ before) e.caller).begun ≡ (local s before e.caller).begun + 1
@@ -36,7 +24,7 @@ used s {c = c} {log = log} b =
     let begun : (local s (since_begin c log ++ b.begin ∷ b.before) b.begin.caller).begun
     ≡ (local s b.before b.begin.caller).begun + 1 =
     ap (λ xs. (local s xs b.begin.caller).begun) (sym whole) ∙ ap (λ n. (local s log n).begun) b.own
-    ∙ begun_since s c log ∙ ap (λ xs. (local s xs c).begun) b.is
+    ∙ begun_there s c log ∙ ap (λ xs. (local s xs c).begun) b.is
     ∙ ap (λ n. (local s (b.begin ∷ b.before) n).begun) (sym b.own) ∙ begins_one s b.before b.begin b.kind in
     subst (λ n. (local s log n).installed ≡ (local s b.before n).installed + length (local s log n).writes) b.own
     (subst (λ xs. (local s xs b.begin.caller).installed

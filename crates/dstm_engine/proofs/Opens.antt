@@ -5,6 +5,7 @@ use Rattle.std.specs.Option.{option_or}
 use Rattle.std.proofs.lemmas.Bool.{cases_Bool, cases_eq, cond_both, eq-eqb, ne_eqb}
 use Rattle.std.proofs.lemmas.List.{length-map, map-append}
 use Rattle.dstm_engine.proofs.Base.{Again, AreWrites, Committing, Doing, Event, HoldsAlso, IsNoReading, IsUnnamed, LocalState, MarksAtMost, Outside, Read, ReadSlot, Reading, Rechecking, Releasing, Running, Shape, Steps, Val, Work, Write, WriteSlot, Writing, drop_read, is_open, is_release, no_value, now, old_values, read_of, read_values, value_in, version_value, view_of, word_of, words_of, write_of}
+use Rattle.dstm_steps.proofs.Puts.{slots_length}
 use Rattle.dstm_steps.proofs.Stepping.{call_of}
 use Rattle.dstm_mem.proofs.Pairs.{value_in-other, value_in-same}
 use Rattle.dstm_opacity.proofs.Entries.{entry_once}
@@ -230,13 +231,6 @@ unnamed_of (p ∷ ps) o h = elim (cases_eq p.0 o) [
   | inr n ↦ (n, unnamed_of ps o (sym (value_in-other p ps o n) ∙ h))
 ]
 
--- there are as many slots as objects open for writing
-pub writes_length : (slots : List WriteSlot) (ws : List Write) → AreWrites slots ws → length slots ≡ length ws
-writes_length [] [] h = refl
-writes_length (s ∷ slots) (w ∷ ws) h = let ih = writes_length slots ws h.1 in omega arith
-writes_length [] (w ∷ ws) h = absurd h
-writes_length (s ∷ slots) [] h = absurd h
-
 -- what is held of an object that has just been opened is the only one more
 also_held : {L : Type 0} (k n : Called L) (o : ℕ) (value : Val) → held n o ≡ Some value →
     ((p : ℕ) (x : Val) → held k p ≡ Some x → held n p ≡ Some x) → ((p : ℕ) → p ≢ o → held n p ≡ held k p) →
@@ -291,7 +285,7 @@ module _ {L : Type 0} {holds : L → List Val → Type 0} {c : Inside L} (v : Ti
     room_to_write below unopened =
         let few = one_more_write c.terms.shape (called c).log c.number o v.run.run.core v.number.0 inside below
         (none_of (write_of o (state (called c)).writes) unopened) in
-        let same = writes_length c.opened.writes (state (called c)).writes (v.writes live) in
+        let same = slots_length c.opened.writes (state (called c)).writes (v.writes live) in
         let objects = v.objects in
         omega arith
 
