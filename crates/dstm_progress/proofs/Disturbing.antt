@@ -143,11 +143,11 @@ cause_disturbs = disturbs
 
 -- ---- a longer log
 
-later_counts : (test : Test) (s : Shape) (later before : List Event) (c i : ℕ) →
+pub count_later : (test : Test) (s : Shape) (later before : List Event) (c i : ℕ) →
     count_of test s before c i ≤ count_of test s (later ++ before) c i
-later_counts test s [] before c i = omega arith
-later_counts test s (e ∷ later) before c i =
-    let ih = later_counts test s later before c i in
+count_later test s [] before c i = omega arith
+count_later test s (e ∷ later) before c i =
+    let ih = count_later test s later before c i in
     cond_both
     ((e.caller == c) && (((local s (later ++ before) c).begun == i) && test s (local s (later ++ before) c) e))
     (count_of test s (later ++ before) c i + 1) (count_of test s (later ++ before) c i)
@@ -155,9 +155,9 @@ later_counts test s (e ∷ later) before c i =
 
 pub disturbed_stays : DisturbedStays
 disturbed_stays s later before c i (became_stale h) =
-    became_stale (let a = later_counts finds_stale s later before c i in omega arith)
+    became_stale (let a = count_later finds_stale s later before c i in omega arith)
 disturbed_stays s later before c i (was_aborted h) =
-    was_aborted (let a = later_counts finds_aborted s later before c i in omega arith)
-disturbed_stays s later before c i (missed h) = missed (let a = later_counts fails s later before c i in omega arith)
+    was_aborted (let a = count_later finds_aborted s later before c i in omega arith)
+disturbed_stays s later before c i (missed h) = missed (let a = count_later fails s later before c i in omega arith)
 disturbed_stays s later before c i (gave_way g h) =
-    gave_way g (let a = later_counts gives_way s later before c i in omega arith)
+    gave_way g (let a = count_later gives_way s later before c i in omega arith)

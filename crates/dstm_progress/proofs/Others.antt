@@ -33,7 +33,7 @@ own_or_other c (e ∷ es) = go (cases_eq e.caller c) (own_or_other c es)
       other = x.other;
     })
 
-all_own : (c : ℕ) (es : List Event) → AreOf c es → events_of c es ≡ es
+pub all_own : (c : ℕ) (es : List Event) → AreOf c es → events_of c es ≡ es
 all_own c [] h = refl
 all_own c (e ∷ es) h = rw (eq-eqb e.caller c h.0) (ap (λ xs. e ∷ xs) (all_own c es h.1))
 
