@@ -1,12 +1,11 @@
 // What a map or a set has altogether: its items, and how many there are.
-ghost use Rattle.std.specs.Prelude.{◌≡◌, ◌<◌, ◌≤◌, false, true, if◌then◌else◌, is_some, IfErr, IfOk, OnOk};
+ghost use Rattle.std.specs.Prelude.{◌≡◌, ◌<◌, ◌≤◌, false, true, if◌then◌else◌, is_some, IfErr, IfOk};
 ghost use Rattle.dstm_cells.specs.Alternatives.{Notes, noting};
 ghost use Rattle.dstm_cells.specs.UnderWay.{Keeps};
 ghost use Rattle.dstm_structures.specs.Effects.{Does, Stops};
-ghost use Rattle.dstm_structures.specs.Items.{Counts, Lists, ListsInOrder, ListsPlace, Stands, if_above};
+ghost use Rattle.dstm_structures.specs.Items.{Counts, Lists, ListsInOrder, Stands, if_above};
 ghost use Rattle.dstm_structures.specs.Maps.{end_of};
 ghost use Rattle.dstm_structures.specs.Orders.{order_end};
-ghost use Rattle.dstm_structures.specs.Places.{is_key};
 ghost use Rattle.dstm_structures.specs.Sets as sets;
 
 use crate::map::HashMap;
