@@ -101,6 +101,13 @@ def copy_of(crate, file, f, text, turned):
     return Copy(file, f.end + 1, head, f.name, turned[behind : end + 1], same, folder)
 
 
+def without_tactics(body):
+    """Returns the body with a copy in which only what stands in proof files is tried."""
+    head = re.sub(r"#\[tactic\(.*\)\]", "", body.copy.head)
+    head = re.sub(r"((?:pub(?:\([^()]*\))? )?(?:const )?(?:unsafe )?fn )$", r"#[tactic(none)] \1", head)
+    return body._replace(copy=body.copy._replace(head=head))
+
+
 def statements_of(mask, begin, end):
     """Returns where the simple statements, and the last expressions of blocks, begin and end."""
     found = []
@@ -112,7 +119,8 @@ def statements_of(mask, begin, end):
             at = close_of(mask, at) if mask[at] in "([{" else at + 1
         said = mask[start:at].rstrip()
         before = mask[begin:start].rsplit("\n", 1)[-1]
-        if re.search(r"\b[A-Z]\w*[a-z]\w* \{ $", before) and not re.match(r" *(\} else )?(if|while|for|match)\b", before):
+        is_block = re.match(r" *(\} else )?(if|while|for|match)\b", before)
+        if re.search(r"\b[A-Z]\w*[a-z]\w* \{ $", before) and not is_block:
             continue
         flat = re.sub(r"\([^()]*\)|\{[^{}]*\}", "", said)
         # What stands between the braces of a `match` or of a struct is none.
@@ -126,6 +134,11 @@ def call_of(said):
     """Returns the call that a statement makes, or nothing."""
     call = re.sub(r"^let [^=]*= ", "", said).rstrip(";").strip()
     return call if re.match(r"[a-zA-Z][\w.:]*(::<[^()]*>)?\(", call) and not re.match(r"(Ok|Err|Some)\(", call) else ""
+
+
+def again(call):
+    """Returns a statement that makes a call once more, under a name of its own, so that the other keeps its name."""
+    return f"let again = {call[:-1]}; let _again = again?; " if call.endswith("?") else f"let _again = {call}; "
 
 
 def parts_of(text, mask, begin, end):
@@ -142,14 +155,14 @@ def parts_of(text, mask, begin, end):
 def twice(f, text, mask):
     for start, end in statements_of(mask, f.begin, f.end):
         if call := call_of(text[start:end]):
-            yield start, start, f"let _ = {call}; "
+            yield start, start, again(call)
 
 
 def more(f, text, mask):
     found = statements_of(mask, f.begin, f.end)
     for start, end in found:
         for at in {found[0][0], found[-1][0]} - {start} if call_of(text[start:end]) else []:
-            yield at, at, f"let _ = {call_of(text[start:end])}; "
+            yield at, at, again(call_of(text[start:end]))
 
 
 def result(f, text, mask):
@@ -329,6 +342,12 @@ class Room:
         copies = [it for it in bodies if place(it) in proved]
         compile = self.compiled(copies)
         yield from ((it, "no source", "") for it in copies if it not in compile)
+        # The tactics take long where a goal is false, so answers in proof files are looked at without them first.
+        answered = [it for it in compile if it.copy.proofs and (it.copy.proofs / "Answers.antt").exists()]
+        for it, kind, why in self.by_batches(answered, many, True):
+            if kind == "clause":
+                compile.remove(it)
+                yield it, kind, why
         yield from self.by_batches(compile, many)
         # (where a copy of the right body is not proved, that of a wrong one shows nothing)
         rest = [it for it in bodies if place(it) not in proved]
@@ -336,13 +355,14 @@ class Room:
             sys.exit(f"edits/plant.py: {self.crate.name} is not proved as it stands")
         yield from ((it, *self.alone(it)) for it in rest)
 
-    def by_batches(self, bodies, many):
+    def by_batches(self, bodies, many, is_quick=False):
         batches = [bodies[at : at + many] for at in range(0, len(bodies), many)]
         for batch in batches:
-            if (found := self.together(batch)) is None and len(batch) > 1:
+            if (found := self.together(batch, is_quick)) is None and len(batch) > 1:
                 batches += [batch[: len(batch) // 2], batch[len(batch) // 2 :]]
             else:
-                yield from ((it, *verdict) for it, verdict in zip(batch, found or [("not judged", "its check has no end")]))
+                found = found or [("not judged", "its check has no end")]
+                yield from ((it, *verdict) for it, verdict in zip(batch, found))
 
     def proofs_of(self, name, copy):
         return self.there(copy.proofs).with_name(copy.proofs.name.replace(copy.name, name))
@@ -389,7 +409,8 @@ class Room:
             self.take(names, bodies)
             if re.search(r"(?m)^only=", said):
                 break
-            wrong = {lines.get((file, int(at))) for file, at in re.findall(r"(?m)^(?:\./)?(src/\S+):(\d+):\d+: error", said)}
+            wrong = re.findall(r"(?m)^(?:\./)?(src/\S+):(\d+):\d+: error", said)
+            wrong = {lines.get((file, int(at))) for file, at in wrong}
             if not wrong & {*names}:
                 # (the error has no place in a body)
                 half = len(bodies) // 2
@@ -397,9 +418,9 @@ class Room:
             bodies = [it for name, it in zip(names, bodies) if name not in wrong]
         return bodies
 
-    def together(self, bodies):
+    def together(self, bodies, is_quick):
         """Returns what became of each of these bodies, which compile, or nothing if the check has no end."""
-        names, lines = self.put(bodies)
+        names, lines = self.put([without_tactics(it) for it in bodies] if is_quick else bodies)
         left, found = [*names], {}
         self.until = self.seconds and time.monotonic() + self.seconds
         try:
@@ -407,11 +428,11 @@ class Room:
                 said = self.check(*(word for name in left for word in ("--only", name)))[1]
                 if not re.search(r"(?m)^(only=|rattle: no verdict)", said):
                     return None
-                for name, part in parts_of_check(said, left, lines).items():
+                for name, part in parts_of_check(said, left, {} if is_quick else lines).items():
                     if verdict := self.verdict(part, times):
                         found[name] = verdict
                         left.remove(name)
-                if not left:
+                if not left or is_quick:
                     break
             return [found.get(name, ("not judged", "its answers have no end")) for name in names]
         except subprocess.TimeoutExpired:
@@ -442,7 +463,7 @@ class Room:
             self.restore()
 
     def verdict(self, said, times):
-        """Returns what a check says of a body, or nothing if answers were taken away, so that it is to be asked again."""
+        """Returns what a check says of a body, or nothing if answers were taken away: then it is to be asked again."""
         if re.search(r"(?m)^fn \S+: proved", said) and not re.search(r"(?m)^fn \S+: (?!proved)", said):
             return "proved", f"{times} times without answers" * bool(times)
         errors = re.findall(r"(?m)^(?:\./)?(proofs/\S+?\.antt):(\d+):\d+: error: (?:`([^`]*)`: )?(.*)", said)
@@ -460,6 +481,8 @@ class Room:
 
 
 def main():
+    # (so that a check that was begun ends with the tool)
+    signal.signal(signal.SIGTERM, lambda *_: sys.exit(1))
     words = argparse.ArgumentParser(description=__doc__, formatter_class=argparse.RawDescriptionHelpFormatter)
     words.add_argument("names", nargs="+", metavar="NAME")
     words.add_argument("--list", action="store_true")
