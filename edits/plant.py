@@ -111,7 +111,7 @@ def without_tactics(body):
 def statements_of(mask, begin, end):
     """Returns where the simple statements, and the last expressions of blocks, begin and end."""
     found = []
-    for it in re.finditer(r"[{};]\s*(?=[^\s{};),.?])", "{" + mask[begin:end]):
+    for it in re.finditer(r"[{};]\s*(?=[^\s{};),.?=])", "{" + mask[begin:end]):
         start = at = begin - 1 + it.end()
         if re.match(r"(for|while|loop|if|match|else|return|break|continue)\b", mask[start:end]):
             continue
