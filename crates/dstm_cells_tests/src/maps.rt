@@ -1,8 +1,8 @@
-// A map and an ordered one, by rows of calls, and beside the one of std. Each call is made on both in one transaction.
+// A map, an ordered one and a set, by rows of calls, and beside the map of std. Each call is made on all in one transaction.
 use crate::cells::memory_by;
 use crate::queues::draw;
 use dstm_cells::{Failed, GaveUp, Manager, Me, Memory, Stop, Tx};
-use dstm_structures::{HashMap, OrderedMap, Placed};
+use dstm_structures::{HashMap, Inserted, OrderedMap, OrderedSet, Placed};
 use std::alloc::Global;
 use std::collections::BTreeMap;
 use std::test::Fail;
@@ -31,12 +31,14 @@ pub enum Answer {
 pub struct Maps {
     pub hashed: HashMap<u64>,
     pub ordered: OrderedMap<u64>,
+    pub set: OrderedSet,
 }
 
 pub fn maps_of(memory: &mut Memory, capacity: u32) -> Result<Maps, Failed> {
     Ok(Maps {
         hashed: HashMap::new(memory, capacity)?,
         ordered: OrderedMap::new(memory, capacity)?,
+        set: OrderedSet::new(memory, capacity)?,
     })
 }
 
@@ -73,10 +75,39 @@ fn call_hashed(
     }
 }
 
-// Makes a call on both. They answer alike, or there is no answer.
-pub fn call_both(tx: &mut Tx<'_>, maps: Maps, call: Call) -> Result<Option<Answer>, Stop> {
+// The answer of a set, as that of a map whose values are all 0.
+fn call_set(tx: &mut Tx<'_>, set: OrderedSet, call: Call) -> Result<Answer, Stop> {
+    match call {
+        Call::Put(key, _) => match set.insert(tx, key)? {
+            Inserted::New => Ok(Answer::Placed(Placed::New)),
+            Inserted::There => Ok(Answer::Placed(Placed::Instead(0))),
+            Inserted::Full => Ok(Answer::Placed(Placed::Full)),
+        },
+        Call::Get(key) => Ok(Answer::Value(set.contains(tx, key)?.then_some(0))),
+        Call::Contains(key) => Ok(Answer::There(set.contains(tx, key)?)),
+        Call::Remove(key) => Ok(Answer::Value(set.remove(tx, key)?.then_some(0))),
+        Call::First => Ok(Answer::Entry(set.first(tx)?.map(|key| (key, 0)))),
+        Call::Last => Ok(Answer::Entry(set.last(tx)?.map(|key| (key, 0)))),
+        Call::Above(key) => Ok(Answer::Entry(set.next_above(tx, key)?.map(|key| (key, 0)))),
+        Call::Pop => Ok(Answer::Entry(set.pop_first(tx)?.map(|key| (key, 0)))),
+    }
+}
+
+// The answer of a map whose values were all 0.
+fn without_values(told: Answer) -> Answer {
+    match told {
+        Answer::Placed(Placed::Instead(_)) => Answer::Placed(Placed::Instead(0)),
+        Answer::Value(value) => Answer::Value(value.map(|_| 0)),
+        Answer::Entry(entry) => Answer::Entry(entry.map(|(key, _)| (key, 0))),
+        told => told,
+    }
+}
+
+// Makes a call on all. They answer alike, or there is no answer.
+pub fn call_all(tx: &mut Tx<'_>, maps: Maps, call: Call) -> Result<Option<Answer>, Stop> {
     let told = call_ordered(tx, maps.ordered, call)?;
-    let same = call_hashed(tx, maps.hashed, call, told)? == told;
+    let same = call_hashed(tx, maps.hashed, call, told)? == told
+        && call_set(tx, maps.set, call)? == without_values(told);
     Ok(same.then_some(told))
 }
 
@@ -109,7 +140,7 @@ const THREE_KEYS: [(Call, Answer); 22] = [
 // Makes the calls, and tells whether they are answered so.
 fn answer_so(me: &mut Me<'_>, maps: Maps, rows: &[(Call, Answer)]) -> Result<bool, GaveUp> {
     for (call, wanted) in rows {
-        if me.atomically(|tx| call_both(tx, maps, *call))? != Some(*wanted) {
+        if me.atomically(|tx| call_all(tx, maps, *call))? != Some(*wanted) {
             return Ok(false);
         }
     }
@@ -223,7 +254,7 @@ fn beside_std(me: &mut Me<'_>, maps: Maps, alloc: Global, seed: &mut u64) -> Res
             Call::Pop
         };
         let wanted = expected(&mut plain, call, 12)?;
-        if me.atomically(|tx| call_both(tx, maps, call))? != Some(wanted) {
+        if me.atomically(|tx| call_all(tx, maps, call))? != Some(wanted) {
             return Ok(false);
         }
     }

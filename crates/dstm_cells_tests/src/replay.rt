@@ -1,6 +1,6 @@
 // Maps that four threads change, and the same calls made one after the other on the map of std.
 use crate::cells::memory_by;
-use crate::maps::{Answer, Call, Maps, call_both, expected, maps_of};
+use crate::maps::{Answer, Call, Maps, call_all, expected, maps_of};
 use crate::queues::draw;
 use dstm_cells::{Cell, GaveUp, Manager, Me, Stop, Tx};
 use dstm_structures::OrderedMap;
@@ -35,7 +35,7 @@ fn call_of(drawn: u64) -> Call {
 
 // Makes a call and draws its number, in one transaction.
 fn call_and_draw(tx: &mut Tx<'_>, next: Cell<u64>, maps: Maps, call: Call) -> Result<Drawn, Stop> {
-    let answer = call_both(tx, maps, call)?;
+    let answer = call_all(tx, maps, call)?;
     let number = tx.update(next, |number| number.wrapping_add(1))?;
     Ok(Drawn {
         number,

@@ -1,6 +1,6 @@
 // An ordered set, and what maps have altogether.
 use crate::cells::memory_by;
-use dstm_cells::{GaveUp, Manager, Me};
+use dstm_cells::{Failed, GaveUp, Manager, Me, Memory};
 use dstm_structures::{HashMap, Inserted, OrderedMap, OrderedSet, Placed};
 use std::alloc::Global;
 use std::test::Fail;
@@ -74,6 +74,8 @@ fn an_ordered_set_of_three_keys(rt: HostRuntime) -> Result<(), Fail> {
         assert!(rt; set.capacity() == 3);
         let filled = memory.run_each(&rt, 1, |me, _| fills(me, set))?;
         assert!(rt; filled.as_slice() == [true].as_slice());
+        assert!(rt; set.read(&memory, 6)? && !set.read(&memory, 1)?);
+        assert!(rt; set.read_all(&memory, rt.alloc())?.as_slice() == [5, 6, u64::MAX].as_slice());
         let emptied = memory.run_each(&rt, 1, |me, _| empties(me, set))?;
         assert!(rt; emptied.as_slice() == [true].as_slice());
     }
@@ -118,6 +120,8 @@ fn items_in_order(
     me.atomically(|tx| map.to_vec(tx, alloc))
 }
 
+const IN_ORDER: [(u64, u64); 3] = [(3, 10), (4, 10), (u64::MAX, 10)];
+
 // Puts three keys, and asks for all.
 fn lists_in_order(me: &mut Me<'_>, map: OrderedMap<u64>, alloc: Global) -> Result<bool, GaveUp> {
     let _last = put_in_order(me, map, u64::MAX)?;
@@ -125,8 +129,7 @@ fn lists_in_order(me: &mut Me<'_>, map: OrderedMap<u64>, alloc: Global) -> Resul
     let _next = put_in_order(me, map, 4)?;
     let three = len_of_ordered(me, map)?;
     let all = items_in_order(me, map, alloc)?;
-    let sorted = [(3, 10), (4, 10), (u64::MAX, 10)];
-    Ok(three == 3 && all.as_slice() == sorted.as_slice())
+    Ok(three == 3 && all.as_slice() == IN_ORDER.as_slice())
 }
 
 #[test]
@@ -140,6 +143,13 @@ fn maps_tell_all_that_they_have(rt: HostRuntime) -> Result<(), Fail> {
         assert!(rt; listed.as_slice() == [true].as_slice());
         let sorted = memory.run_each(&rt, 1, |me, _| lists_in_order(me, ordered, alloc))?;
         assert!(rt; sorted.as_slice() == [true].as_slice());
+        assert!(rt; map.read(&memory, 7)? == Some(10) && map.read(&memory, 8)?.is_none());
+        assert!(rt; map.read_all(&memory, alloc)?.as_slice() == [(7, 10)].as_slice());
+        assert!(rt; ordered.read(&memory, 4)? == Some(10) && ordered.read(&memory, 5)?.is_none());
+        assert!(rt; ordered.read_all(&memory, alloc)?.as_slice() == IN_ORDER.as_slice());
+        let other = Memory::new(alloc);
+        assert!(rt; matches!(map.read(&other, 7), Err(Failed::Foreign)));
+        assert!(rt; matches!(ordered.read_all(&other, alloc), Err(Failed::Foreign)));
     }
     Ok(())
 }
