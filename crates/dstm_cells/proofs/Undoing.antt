@@ -1,9 +1,9 @@
 -- What is noted, and how it is undone.
-use Rattle.std.proofs.Common.{◌≡◌, ◌++◌, ◌+◌, ◌-◌, ◌<◌, ◌≤◌, ◌∙◌, ◌∷◌, Bool, List, [], ap, append_assoc, arith, get_or, length, length-append, refl, slice_set, subst, suc, sym, take, true, ℕ}
-use Rattle.std.proofs.Math.Seq.{get_or-append_right, take-append-add, take-length, take-suc}
+use Rattle.std.proofs.Common.{◌≡◌, ◌++◌, ◌+◌, ◌-◌, ◌≤◌, ◌∙◌, ◌∷◌, Bool, List, [], ap, append_assoc, get_or, length, refl, slice_set, subst, sym, take, true, ℕ}
 use Rattle.std.proofs.lemmas.List.{append-nil, set-get_or, set-set}
 use Rattle.dstm_model.specs.declared.value.Val.{Val}
 use Rattle.dstm_model.specs.Map.{no_value}
+use Rattle.dstm_attempts.proofs.Noted.{without_last}
 use Rattle.dstm_cells.specs.Alternatives.{IsUndone, Noting, Notes, Undoes, in_alternative, set_back, settings}
 use Rattle.dstm_cells.specs.UnderWay.{Exchanges, Keeps, MayBegin, SetsNothing, seen}
 use Rattle.dstm_cells.specs.declared.under_way.Undo.{Undo}
@@ -13,25 +13,6 @@ set_back-append : (first later : List Undo) (map : List Val) →
 set_back-append [] later map = refl
 set_back-append (undo ∷ first) later map =
     ap (λ (xs : List Val). slice_set xs undo.object undo.value) (set_back-append first later map)
-
--- the last one of what was noted behind the first ones
-last_left : (first left : List Undo) (last : ℕ) (undo : Undo) → length (first ++ left) ≡ last + 1 →
-    length first ≤ last → undo ≡ get_or (first ++ left) last undo →
-    left ≡ take (last - length first) left ++ (undo ∷ [])
-last_left first left last undo size within is =
-    let all : suc (last - length first) ≡ length left = omega (arith, length-append first left, size, within) in
-    let inside : last - length first < length left = omega (arith, all) in
-    sym (ap (λ n. take n left) all ∙ take-length left)
-    ∙ take-suc left (last - length first) undo inside
-    ∙ ap (λ (u : Undo). take (last - length first) left ++ (u ∷ []))
-    (sym (get_or-append_right first left last undo within) ∙ sym is)
-
--- and those before it
-before_last : (first left : List Undo) (last : ℕ) → length first ≤ last →
-    take last (first ++ left) ≡ first ++ take (last - length first) left
-before_last first left last within =
-    let split : last ≡ length first + (last - length first) = omega (arith, within) in
-    ap (λ n. take n (first ++ left)) split ∙ take-append-add first left (last - length first)
 
 module _ {L : Type 0} (holds : L → List Val → Type 0) where
   -- nothing was set, and nothing noted
@@ -103,13 +84,10 @@ module _ {L : Type 0} (holds : L → List Val → Type 0) where
       undo ≡ get_or m.undos last undo → n.undos ≡ take last m.undos →
       Exchanges holds m.caller n.caller undo.object had undo.value → (rest : List Undo) × Undoes holds first added rest k n
   undoes_step first added left last undo k m n had so_far size within is undos exchanges =
-      let split : left ≡ take (last - length first) left ++ (undo ∷ []) =
-      last_left first left last undo (sym (ap length so_far.is) ∙ size) within
-      (is ∙ ap (λ (xs : List Undo). get_or xs last undo) so_far.is) in (
-        take (last - length first) left,
-        undoes_one first added (take (last - length first) left) undo k m n had
-            (subst (λ (xs : List Undo). Undoes holds first added xs k m) split so_far)
-            (undos ∙ ap (take last) so_far.is ∙ before_last first left last within) exchanges,
+      let rest = without_last first left last undo so_far.is size within is undos in (
+        rest.0,
+        undoes_one first added rest.0 undo k m n had
+            (subst (λ (xs : List Undo). Undoes holds first added xs k m) rest.1 so_far) rest.2 exchanges,
       )
 
 module _ {L : Type 0} (holds : L → List Val → Type 0) (k left m : Noting L) (first : Notes holds (in_alternative k) left)
