@@ -112,7 +112,8 @@ module _ (f : ℕ → ℕ) where
   all_below (w ∷ ws) n below =
       (below w (0, omega arith, refl), all_below ws n (λ v there. below v (contains_more w v ws there)))
 
-is_below : (ns : List ℕ) (n q : ℕ) → AllByRecursion (λ m. m < n) ns → list_any (eqb q) ns ≡ true → q < n
+-- a number among numbers below this is below it
+pub is_below : (ns : List ℕ) (n q : ℕ) → AllByRecursion (λ m. m < n) ns → list_any (eqb q) ns ≡ true → q < n
 is_below [] n q below some = absurd (true≢false (sym some))
 is_below (m ∷ ns) n q below some = by (cases_eq q m) (is_below ns n q below.1)
   where

@@ -6,6 +6,7 @@ use Rattle.std.proofs.lemmas.List.{append-nil}
 use Rattle.dstm_records.proofs.Base.{Agrees, AllBlocked, AnswersWhere, Committed, Entry, GiveUpRightly, IsAnsweredBy, IsBefore, IsGivenUpRightly, IsGoodRow, IsLegal, Job, JobOutcome, Row, RowsAreGood, StandsFor, TellOf, TellsOf, Val, Workload, apply_job, entries_of, first_job, is_given_up, job_of, jobs_left, last_row, store_after, store_left, with_writes}
 use Rattle.dstm_model.specs.Map.{state_after}
 use Rattle.dstm_records.specs.Told.{IsGivenUp}
+use Rattle.dstm_report.proofs.OneRowMore.{RowsAreGood-push}
 use Rattle.dstm_tables.proofs.Entries.{entries_push}
 use Rattle.dstm_records.proofs.Follows.{tells, good_row, store_push, TellOf-push, agrees_next}
 
@@ -27,16 +28,6 @@ at_start workload before {start = start} all stands legal = record {
   legal = legal;
   given_up = tt;
 }
-
-good_push : {workload : Workload} (before rows : List Row) {row : Row} → RowsAreGood workload before rows →
-    IsGoodRow workload (before ++ rows) row → RowsAreGood workload before (rows ++ row ∷ [])
-good_push {workload = workload} before [] {row = row} good next =
-    (subst (λ (b : List Row). IsGoodRow workload b row) (append-nil before) next, tt)
-good_push {workload = workload} before (first ∷ rows) {row = row} good next = (
-  good.0,
-  good_push (before ++ first ∷ []) rows good.1
-      (subst (λ (b : List Row). IsGoodRow workload b row) (sym (append_assoc before (first ∷ []) rows)) next),
-)
 
 rightly_push : (workload : Workload) (before rows : List Row) (row : Row) → GiveUpRightly workload before rows →
     (is_given_up row.replies ≡ true → IsGivenUpRightly workload (before ++ rows) row) →
@@ -69,7 +60,7 @@ push_row {workload = workload} {before = before} {rows = rows} {start = start} {
     let after : state_after start (entries_of (done ++ next ∷ [])) ≡ with_writes map next.entry.writes =
     ap (state_after start) (entries_push done next) ∙ state_push start (entries_of done) next.entry in
     record {
-      good = good_push before rows c.good good;
+      good = RowsAreGood-push before rows c.good good;
       tell = TellOf-push before rows start done c.tell told;
       stands = subst (λ (m : List Val). StandsFor workload.layout m (store_after workload (before ++ (rows ++ row ∷ [])))) (sym after)
           (subst (λ (b : List Row). StandsFor workload.layout (with_writes map next.entry.writes) (store_after workload b))

@@ -1,22 +1,16 @@
 -- A transaction that committed, and the row that tells of it: what it answered on every map that it could have read it
 -- answered on the map that those before it left.
-use Rattle.std.proofs.Common.{◌≡◌, false, eqb, List, [], ◌∷◌, ◌++◌, Option, Some, None, refl, ap, sym, subst, ◌∙◌, true≢false, append_assoc}
-use Rattle.std.specs.Prelude.{IsSomeAnd, IfSome, find}
+use Rattle.std.proofs.Common.{◌≡◌, false, List, [], ◌∷◌, ◌++◌, Option, Some, None, ap, sym, subst, ◌∙◌, true≢false, append_assoc}
+use Rattle.std.specs.Prelude.{IsSomeAnd, IfSome}
 use Rattle.std.proofs.lemmas.List.{append-nil}
-use Rattle.dstm_records.proofs.Base.{Agrees, AllBlocked, AnswersWhere, Committed, Entry, GivesReplies, IsAnsweredBy, IsBefore, IsGoodRow, IsLegal, Job, JobOutcome, Row, StandsFor, TellOf, TellsOf, Val, Workload, after_job, after_rows, apply_job, entries_of, first_job, is_given_up, job_of, jobs_left, last_row, store_after, store_left, with_writes}
+use Rattle.dstm_records.proofs.Base.{Agrees, AllBlocked, AnswersWhere, Committed, Entry, GivesReplies, IsAnsweredBy, IsBefore, IsGoodRow, IsLegal, Job, JobOutcome, Row, StandsFor, TellOf, TellsOf, Val, Workload, after_job, apply_job, entries_of, first_job, is_given_up, job_of, jobs_left, last_row, store_after, store_left, with_writes}
+use Rattle.dstm_report.proofs.OneRowMore.{after_rows-push}
 use Rattle.dstm_jobs.specs.Answers.{StaysOut}
 use Rattle.dstm_model.specs.declared.reply.Reply.{Reply}
 use Rattle.dstm_model.specs.Map.{state_after}
 use Rattle.dstm_model.specs.Store.{Store, opening_store}
 
 -- ---- the store after one row more
-
-after_rows-push : (jobs : List Job) (rows : List Row) (row : Row) (store : Store) →
-    after_rows jobs (rows ++ row ∷ []) store ≡ after_job (find (λ job. eqb job.line row.line) jobs)
-    (after_rows jobs rows store)
-after_rows-push jobs [] row store = refl
-after_rows-push jobs (first ∷ rows) row store =
-    after_rows-push jobs rows row (after_job (find (λ job. eqb job.line first.line) jobs) store)
 
 -- the store after a row, whose job is known
 pub store_push : (workload : Workload) (before : List Row) (row : Row) (job : Job) →

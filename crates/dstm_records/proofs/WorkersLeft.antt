@@ -165,7 +165,8 @@ turn workload round front (row ∷ rest) good some =
 
 -- ---- a worker with jobs left
 
-filter_some : (p : ℕ → Bool) (a n w : ℕ) → a ≤ w → w < a + n → p w ≡ true → 0 < length (filter p (range_with_len a n))
+-- numbers from one on have some that pass, where one of them passes
+pub filter_some : (p : ℕ → Bool) (a n w : ℕ) → a ≤ w → w < a + n → p w ≡ true → 0 < length (filter p (range_with_len a n))
 filter_some p a zero w low high is = absurd (omega (arith, low, high))
 filter_some p a (suc n) w low high is =
     by (λ more. filter_some p (a + 1) n w more (omega (arith, high)) is) (cases_eq a w)
