@@ -265,6 +265,7 @@ impl<L: Law> Attempts<L> {
         ensures same { result ≡ look.Same → LooksSame since self.old.caller self.new.caller }
         ensures changed { result ≡ look.Changed → LooksChanged L.holds since self.old.caller self.new.caller }
         ensures spent { result ≡ look.Spent → LooksSpent self.old.caller self.new.caller }
+        ensures live { result ≡ look.Same → is_under_way self.new.caller ≡ true }
         ensures nothing { AddsNothing self.old.caller self.new.caller }
     {
         match &mut self.caller {

@@ -96,6 +96,7 @@ pub(crate) trait Calls<L: Law, T> {
         ensures same { result ≡ look.Same → LooksSame since (caller self.old) (caller self.new) }
         ensures changed { result ≡ look.Changed → LooksChanged L.holds since (caller self.old) (caller self.new) }
         ensures spent { result ≡ look.Spent → LooksSpent (caller self.old) (caller self.new) }
+        ensures live { result ≡ look.Same → is_under_way (caller self.new) ≡ true }
         ensures nothing { AddsNothing (caller self.old) (caller self.new) }
         ensures flags { Flags going.new (caller self.new) };
 
