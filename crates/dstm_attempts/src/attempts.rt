@@ -107,6 +107,7 @@ impl<L: Law> Attempts<L> {
     }
 
     /// Begins an attempt.
+    #[inline(always)]
     pub fn begin(&mut self, table: &Table<L>) -> Result<(), Spent>
         requires table { home_of self.old.caller ≡ table.now }
         ensures begins { OnOk result (Begins L.holds self.old.caller self.new.caller) }
@@ -151,6 +152,7 @@ impl<L: Law> Attempts<L> {
     }
 
     /// Opens an object for reading and writing, and answers its value.
+    #[inline(always)]
     pub fn write(&mut self, table: &Table<L>, object: u32) -> Result<Val, NotOpened>
         requires table { home_of self.old.caller ≡ table.now }
         ensures keeps { Keeps self.old.caller self.new.caller }
@@ -201,6 +203,7 @@ impl<L: Law> Attempts<L> {
     }
 
     /// Commits the attempt, and tells whether it has taken effect.
+    #[inline(always)]
     pub fn commit(&mut self, table: &Table<L>) -> bool
         requires table { home_of self.old.caller ≡ table.now }
         requires lawful { LeavesLawful L.holds self.old.caller }

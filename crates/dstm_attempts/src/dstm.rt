@@ -24,6 +24,7 @@ impl<L: Law> Calls<L, Stm<L>> for Caller<L> {
 
     ghost caller = { λ caller. Dstm caller };
 
+    #[inline(always)]
     fn begin(&mut self, going: &mut bool, stm: &Stm<L>) -> Result<(), Spent> {
         let Ok(_tx) = Caller::begin(self, stm) else {
             *going = false;
@@ -45,6 +46,7 @@ impl<L: Law> Calls<L, Stm<L>> for Caller<L> {
         }
     }
 
+    #[inline(always)]
     fn write(&mut self, going: &mut bool, stm: &Stm<L>, object: u32) -> Result<Val, NotOpened> {
         self.may_open(*going, stm, object)?;
         let mut tx = self.resume(stm);
@@ -61,6 +63,7 @@ impl<L: Law> Calls<L, Stm<L>> for Caller<L> {
         self.resume(stm).set(object, value);
     }
 
+    #[inline(always)]
     fn commit(&mut self, going: &mut bool, stm: &Stm<L>) -> bool {
         if !*going {
             return false;
