@@ -112,6 +112,7 @@ impl<'a, L: Law> Transaction for Tx<'a, L> {
         Ok(())
     }
 
+    #[inline(always)]
     fn commit(&mut self) -> bool {
         self.attempts.commit(self.table)
     }
