@@ -1,5 +1,5 @@
 -- What an alternative of a transaction has set, how it is undone, and what becomes of two alternatives.
-use Rattle.std.specs.Prelude.{◌≡◌, ◌≢◌, ◌⊎◌, ℕ, Bool, true, false, ◌<◌, List, [], ◌∷◌, ◌++◌, length, Result, Err, slice_set}
+use Rattle.std.specs.Prelude.{◌≡◌, ◌≢◌, ◌⊎◌, ℕ, Bool, true, false, ◌<◌, List, [], ◌∷◌, ◌++◌, length, Contains, Result, Err, slice_set}
 use denote.Ref.{MutBor}
 use Rattle.std.specs.Fn.{FnOnceReturnsAtMut, Once}
 use Rattle.dstm_model.specs.declared.value.Law.{Ghosts}
@@ -65,12 +65,13 @@ module _ {L : Type 0} where
       pub narrows : (map : List Val) → MayBegin holds new.caller map → MayBegin holds old.caller map
       pub same : (map : List Val) → MayBegin holds new.caller map → seen new.caller map ≡ seen old.caller map
 
-    -- why undoing stops: a call that sets an object back does
-    pub record StopsUndoing (old new : Caller L) (stop : Stop) : Type 0 where
-      pub object : ℕ
+    -- why undoing stops: a call that sets an object back does, one of those that were noted
+    pub record StopsUndoing (undos : List Undo) (old new : Caller L) (stop : Stop) : Type 0 where
+      pub undo : Undo
+      pub noted : Contains undos undo
       pub last : Caller L
       pub keeps : Keeps old last
-      pub stops : StopsChange holds false object last new stop.why
+      pub stops : StopsChange holds false undo.object last new stop.why
 
 module _ {X L F R : Type 0} (noting : X → Noting L)
     (g : Once F (MutBor X × Unit {0}) (Result R Stop × (MutBor X × Unit {0}))) (f : F) where
@@ -115,7 +116,7 @@ module _ {X L F G R : Type 0} (noting : X → Noting L) (holds : L → List Val 
     pub noted : length k.undos < length left.undos
     pub stop : Stop
     pub is : answer ≡ Err stop
-    pub stops : StopsUndoing holds left.caller n.caller stop
+    pub stops : StopsUndoing holds left.undos left.caller n.caller stop
 
   -- WHAT TWO ALTERNATIVES DO
   abbrev pub OrElse : Type 0

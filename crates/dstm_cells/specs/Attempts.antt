@@ -1,10 +1,10 @@
 -- How the attempts of a transaction follow one another, and why there is no further one.
-use Rattle.std.specs.Prelude.{◌≡◌, ◌⊎◌, ℕ, zero, suc, ◌+◌, ◌≤◌, false, List, Result, Ok, Err}
+use Rattle.std.specs.Prelude.{◌≡◌, ◌⊎◌, ℕ, zero, suc, ◌+◌, ◌≤◌, true, false, List, Result, Ok, Err}
 use Rattle.dstm_model.specs.declared.value.Val.{Val}
 use Rattle.dstm_engine.specs.Attempts.{sights}
 use Rattle.dstm_tables.specs.declared.tables.Caller.{Caller}
 use Rattle.dstm_tables.specs.declared.tables.Caller.TheVariants.{Dstm, Tl2}
-use Rattle.dstm_attempts.specs.Attempts.{AddsNothing, Begins, IsLost, IsNotOpened, IsSpent, Keeps, LooksChanged, LooksSpent, Opens, begun, clock, objects_of}
+use Rattle.dstm_attempts.specs.Attempts.{AddsNothing, Begins, IsLost, IsNotOpened, IsSpent, Keeps, LooksChanged, LooksSpent, Opens, begun, clock, is_under_way, objects_of}
 use Rattle.dstm_attempts.specs.Waiting.{FindsChange, HasNoRoom, IsSpentLettingGo, LetsGo, RenewsNothing}
 use Rattle.dstm_attempts.specs.declared.error.NotOpened.TheVariants.{Over}
 use Rattle.dstm_cells.specs.declared.error.GaveUp.{GaveUp}
@@ -39,10 +39,9 @@ module _ {L : Type 0} where
   StaysFor Foreign old new = Keeps old new
   StaysFor Memory old new = Keeps old new
 
-  -- nothing had changed at any of so many looks: under DSTM all that the attempt had read was current; under TL2 no
-  -- transaction had drawn a number since the attempt began
-  pub record WaitedInVain (most : ℕ) (old : Caller L) : Type 0 where
-    pub new : Caller L
+  -- nothing had changed at any of so many looks, as they have left the caller: under DSTM all that the attempt had read was
+  -- current; under TL2 no transaction had drawn a number since the attempt began
+  pub record WaitedInVain (most : ℕ) (old new : Caller L) : Type 0 where
     pub stays : StaysLooking old new
     pub looks : looked new ≡ looked old + most
     pub still : clock new ≡ clock old
@@ -95,28 +94,28 @@ module _ {L : Type 0} where
       pub disturbed : WereDisturbed count old last
       pub ends : ((count ≡ attempts) × (new ≡ last)) ⊎ (IsSpent new × (begun new ≡ begun last))
 
-    -- a look found a change: under DSTM that something which the attempt had read has changed, or that it is over; under TL2
-    -- that a transaction has drawn a number since the attempt began
-    pub record WasWoken (old : Caller L) : Type 0 where
+    -- A look found a change, and left the caller so: under DSTM that something which the attempt had read has changed; under TL2
+    -- that a transaction has drawn a number since the attempt began. The attempt was under way then, unless it was over before
+    -- the first look.
+    pub record WasWoken (old new : Caller L) : Type 0 where
       pub last : Caller L
       pub stays : StaysLooking old last
-      pub new : Caller L
+      pub live : (is_under_way last ≡ true) ⊎ (last ≡ old)
       pub changed : LooksChanged holds (clock old) last new
 
     -- no attempt was left to look, which only TL2 needs
-    pub record IsSpentWaiting (old : Caller L) : Type 0 where
+    pub record IsSpentWaiting (old new : Caller L) : Type 0 where
       pub last : Caller L
       pub stays : StaysLooking old last
-      pub new : Caller L
       pub spent : LooksSpent last new
 
-    -- what follows looks
-    abbrev pub FollowsLooks : (looks : ℕ) → Caller L → Result (Unit {0}) GaveUp → Type 0
-    FollowsLooks looks k (Ok x) = WasWoken k
-    FollowsLooks looks k (Err Spent) = IsSpentWaiting k
-    FollowsLooks looks k (Err Idle) = WaitedInVain looks k
-    FollowsLooks looks k (Err gave_up.Foreign) = ⊥
-    FollowsLooks looks k (Err gave_up.Memory) = ⊥
+    -- what follows looks, and how they leave the caller
+    abbrev pub FollowsLooks : (looks : ℕ) → Caller L → Caller L → Result (Unit {0}) GaveUp → Type 0
+    FollowsLooks looks k n (Ok x) = WasWoken k n
+    FollowsLooks looks k n (Err Spent) = IsSpentWaiting k n
+    FollowsLooks looks k n (Err Idle) = WaitedInVain looks k n
+    FollowsLooks looks k n (Err gave_up.Foreign) = ⊥
+    FollowsLooks looks k n (Err gave_up.Memory) = ⊥
 
     -- where an attempt has not let go of what it had set: something had changed; or no attempt, or no memory, was left for that
     abbrev pub DoesNotLetGo : Caller L → Caller L → Result (Unit {0}) GaveUp → Type 0
@@ -127,18 +126,24 @@ module _ {L : Type 0} where
     DoesNotLetGo k n (Err gave_up.Memory) = HasNoRoom k n
 
     -- an attempt has let go of what it had set, and then it was looked
-    pub record LooksWithoutHolding (looks : ℕ) (k : Caller L) (next : Result (Unit {0}) GaveUp) : Type 0 where
+    pub record LooksWithoutHolding (looks : ℕ) (k n : Caller L) (next : Result (Unit {0}) GaveUp) : Type 0 where
       pub first : Caller L
       pub lets_go : LetsGo holds k first
-      pub follows : FollowsLooks looks first next
+      pub follows : FollowsLooks looks first n next
 
     -- WHAT FOLLOWS A RETRY: the attempt let go of what it had set, and it was waited
-    abbrev pub FollowsRetry : (looks : ℕ) → Caller L → Result (Unit {0}) GaveUp → Type 0
-    FollowsRetry looks k next = LooksWithoutHolding looks k next ⊎ ((n : Caller L) × DoesNotLetGo k n next)
+    abbrev pub FollowsRetry : (looks : ℕ) → Caller L → Caller L → Result (Unit {0}) GaveUp → Type 0
+    FollowsRetry looks k n next = LooksWithoutHolding looks k n next ⊎ DoesNotLetGo k n next
 
-    -- WHAT FOLLOWS WHERE A CLOSURE STOPS ITS ATTEMPT: a further attempt, or none, and why
-    abbrev pub Follows : (looks : ℕ) → Caller L → Why → Result (Unit {0}) GaveUp → Type 0
-    Follows looks k Again next = next ≡ Ok tt
-    Follows looks k Retry next = FollowsRetry looks k next
-    Follows looks k Foreign next = next ≡ Err gave_up.Foreign
-    Follows looks k Memory next = next ≡ Err gave_up.Memory
+    -- WHAT FOLLOWS WHERE A CLOSURE STOPS ITS ATTEMPT: a further attempt, or none, and why; and how that leaves the caller
+    abbrev pub Follows : (looks : ℕ) → Caller L → Why → Caller L → Result (Unit {0}) GaveUp → Type 0
+    Follows looks k Again n next = next ≡ Ok tt
+    Follows looks k Retry n next = FollowsRetry looks k n next
+    Follows looks k Foreign n next = next ≡ Err gave_up.Foreign
+    Follows looks k Memory n next = next ≡ Err gave_up.Memory
+
+    -- the same, and then the attempt was left
+    pub record FollowsAndLeaves (looks : ℕ) (k : Caller L) (why : Why) (n : Caller L) (next : Result (Unit {0}) GaveUp) : Type 0 where
+      pub last : Caller L
+      pub follows : Follows looks k why last next
+      pub leaves : Keeps last n

@@ -8,7 +8,7 @@ use Rattle.dstm_attempts.specs.Attempts.{Begins, IsLost, IsSpent, begun, renewed
 use Rattle.dstm_cells.specs.declared.error.GaveUp.{GaveUp}
 use Rattle.dstm_cells.specs.declared.error.GaveUp.TheVariants.{Spent}
 use Rattle.dstm_cells.specs.declared.error.Stop.{Stop}
-use Rattle.dstm_cells.specs.Attempts.{Follows, StaysFor}
+use Rattle.dstm_cells.specs.Attempts.{FollowsAndLeaves, StaysFor}
 use Rattle.dstm_cells.specs.UnderWay.{AddsNothing, IsUntouched, Keeps, LeavesLawful, TakesEffect}
 
 -- each call of the closure keeps how often its transaction looks where it retries
@@ -51,7 +51,7 @@ module _ {X L F R : Type 0} (caller : X → Caller L) where
         abbrev pub TriesOn : Result R Stop → X → Caller L → Type 0
         TriesOn (Ok answer) ended n = Keeps (caller ended) n × IsLost holds (caller ended) n
         TriesOn (Err stop) ended n =
-            StaysFor stop.why (caller ended) n × Follows holds (patience ended) (caller ended) stop.why (Ok tt)
+            StaysFor stop.why (caller ended) n × FollowsAndLeaves holds (patience ended) (caller ended) stop.why n (Ok tt)
 
         -- AN ATTEMPT CAME TO NOTHING, and a further one is made: what the closure has become, and the caller
         pub record CameToNothing (k : Caller L) (f : F) (n : Caller L) (after : F) : Type 0 where
@@ -89,7 +89,7 @@ module _ {X L F R : Type 0} (caller : X → Caller L) where
         pub record WasStopped (k : Caller L) (f : F) (n : Caller L) (why : GaveUp) : Type 0 where
           pub stop : Stop
           pub last : CalledAnew k f (Err stop)
-          pub follows : Follows holds (patience last.on.ended) (caller last.on.ended) stop.why (Err why)
+          pub follows : FollowsAndLeaves holds (patience last.on.ended) (caller last.on.ended) stop.why n (Err why)
           pub leaves : StaysFor stop.why (caller last.on.ended) n
 
         -- NO ATTEMPT IS LEFT, or no locator: all that were made came to nothing

@@ -3,7 +3,7 @@ ghost use Rattle.std.specs.Prelude.{◌++◌, ◌≡◌, ◌<◌, ℕ, List, [],
 ghost use Rattle.dstm_tables.specs.declared.tables.Caller.{Caller};
 ghost use Rattle.dstm_attempts.specs.Attempts.{AddsNothing, Begins, IsLost, IsQuit, IsSpent, Keeps, LeavesLawful, TakesEffect, attempts_of, begun, renewed};
 ghost use Rattle.dstm_cells.specs.Alternatives.{Noting, StopsUndoing, Undoes, noting, settings};
-ghost use Rattle.dstm_cells.specs.Attempts.{Follows, StaysFor};
+ghost use Rattle.dstm_cells.specs.Attempts.{FollowsAndLeaves, StaysFor};
 ghost use Rattle.dstm_cells.specs.declared.error.GaveUp.TheVariants.{Spent};
 ghost use Rattle.dstm_cells.specs.declared.under_way.Undo.{Undo};
 
@@ -56,7 +56,7 @@ pub trait Transaction: Drop {
     fn leave(&mut self, stop: Stop) -> Result<(), GaveUp>
         ensures stays { StaysFor stop.why (caller self.old) (caller self.new) }
         ensures quit { IsQuit (caller self.new) }
-        ensures follows { Follows Self.Rule.holds (patience self.old) (caller self.old) stop.why result }
+        ensures follows { FollowsAndLeaves Self.Rule.holds (patience self.old) (caller self.old) stop.why (caller self.new) result }
         ensures patience { patience self.new ≡ patience self.old };
 
     /// How often a transaction that retries looks at most whether something that it has read has changed.
@@ -83,7 +83,8 @@ pub trait Transaction: Drop {
             → length first ≡ kept
             → (left : List Undo) × Undoes Self.Rule.holds first added left (noting self.old) (noting self.new)) }
         ensures some { IfErr result (λ _. kept < length (noting self.old).undos) }
-        ensures stops { IfErr result (StopsUndoing Self.Rule.holds (noting self.old).caller (noting self.new).caller) };
+        ensures stops { IfErr result (StopsUndoing Self.Rule.holds (noting self.old).undos (noting self.old).caller
+            (noting self.new).caller) };
 }
 
 impl<'a, L: Law> Transaction for Tx<'a, L> {

@@ -174,7 +174,7 @@ impl<'a, L: Law> Tx<'a, L> {
     pub(crate) fn follow(&mut self, why: Why) -> Result<(), GaveUp>
         ensures stays { StaysFor why self.old.attempts.caller self.new.attempts.caller }
         ensures looks { self.new.looks ≡ self.old.looks }
-        ensures follows { Follows L.holds self.old.looks self.old.attempts.caller why result }
+        ensures follows { Follows L.holds self.old.looks self.old.attempts.caller why self.new.attempts.caller result }
     {
         match why {
             Why::Again => Ok(()),
@@ -188,7 +188,7 @@ impl<'a, L: Law> Tx<'a, L> {
     fn wait(&mut self) -> Result<(), GaveUp>
         ensures stays { StaysWaiting self.old.attempts.caller self.new.attempts.caller }
         ensures looks { self.new.looks ≡ self.old.looks }
-        ensures follows { FollowsRetry L.holds self.old.looks self.old.attempts.caller result }
+        ensures follows { FollowsRetry L.holds self.old.looks self.old.attempts.caller self.new.attempts.caller result }
     {
         match self.attempts.let_go(self.table) {
             Ok(Look::Same) => self.look_on(),
@@ -202,7 +202,7 @@ impl<'a, L: Law> Tx<'a, L> {
     fn look_on(&mut self) -> Result<(), GaveUp>
         ensures stays { StaysLooking self.old.attempts.caller self.new.attempts.caller }
         ensures looks { self.new.looks ≡ self.old.looks }
-        ensures follows { FollowsLooks L.holds self.old.looks self.old.attempts.caller result }
+        ensures follows { FollowsLooks L.holds self.old.looks self.old.attempts.caller self.new.attempts.caller result }
     {
         let began = self.attempts.clock();
         for _look in 0..self.looks {

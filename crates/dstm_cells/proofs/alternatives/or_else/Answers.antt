@@ -77,7 +77,7 @@ returns-in_err-undo_to-clause-does g c first =
           c.in_err-undo_to.ensures.some);
       stop = c.in_err-undo_to.field-0.0;
       is = err_is c.from_residual.result _ c.from_residual.ensures.1;
-      stops = subst (λ (k : Noting _). StopsUndoing g.X.Rule.Law.holds k.caller (noting c.undo_to.new.self).caller c.in_err-undo_to.field-0.0)
+      stops = subst (λ (k : Noting _). StopsUndoing g.X.Rule.Law.holds k.undos k.caller (noting c.undo_to.new.self).caller c.in_err-undo_to.field-0.0)
           it.off c.in_err-undo_to.ensures.stops;
     }))
 

@@ -1,5 +1,7 @@
-use Rattle.std.proofs.Common.{◌-◌, ◌∙◌, List, ap, arith, length, rules, take}
+use Rattle.std.proofs.Common.{◌-◌, ◌∙◌, List, ap, arith, length, refl, rules, subst, sym, take}
+use Rattle.std.specs.Prelude.{All, Contains}
 use Rattle.std.proofs.lemmas.List.{length-take-le}
+use Rattle.std.proofs.lemmas.List.Elements.{All-contains_itself, All-get_or, All-take}
 use Rattle.dstm_cells.specs.Alternatives.{StopsUndoing, noting}
 use Rattle.dstm_cells.specs.declared.under_way.Undo.{Undo}
 use Rattle.dstm_cells.proofs.Calling.{if_err, is_err}
@@ -9,9 +11,13 @@ use Rattle.dstm_cells.proofs.transaction.TxTransaction.undo_to.Goals as goal
 pub returns-in_err-put-clause-stops : goal.returns-in_err-put-clause-stops
 returns-in_err-put-clause-stops g c =
     is_err c.from_residual.result c.in_err-put.field-0.0
-    (StopsUndoing g.L.Law.holds c.args.self.now.attempts.caller c.put.new.self.attempts.caller) c.from_residual.ensures.1
+    (StopsUndoing g.L.Law.holds c.args.self.now.undos.items c.args.self.now.attempts.caller c.put.new.self.attempts.caller)
+    c.from_residual.ensures.1
     (record {
-      object = c.index-undo.result.now.object;
+      undo = c.index-undo.result.now;
+      noted = subst (λ (u : Undo). Contains c.args.self.now.undos.items u) (sym c.index-undo.ensures)
+          (All-get_or (Contains c.args.self.now.undos.items) c.loop-self.self.undos.items (c.len-last.result - 1) c.index-undo.result.now
+          (omega (arith, c.len-last.ensures, c.len.ensures, c.loop-self-test.true)) c.loop-self.invariant.among);
       last = c.loop-self.self.attempts.caller;
       keeps = c.loop-self.invariant.keeps;
       stops = c.in_err-put.ensures.stops;
@@ -28,6 +34,15 @@ returns-in_err-put-clause-notes g c = c.in_err-put.ensures.notes ∙ c.loop-self
 pub returns-clause-notes : goal.returns-clause-notes
 returns-clause-notes g c = c.loop-self.invariant.notes
 
+pub loop-self-init : goal.loop-self-init
+loop-self-init g c = record {
+  keeps = refl;
+  notes = refl;
+  fewer = omega arith;
+  among = All-contains_itself c.args.self.now.undos.items;
+  undoes = λ first added was size. (added, record { is = was; narrows = λ map may. may; back = λ map may. refl });
+}
+
 pub loop-self-preserved : goal.loop-self-preserved
 loop-self-preserved g c = record {
   keeps = search rules;
@@ -38,6 +53,11 @@ loop-self-preserved g c = record {
       let size = length-take-le last c.loop-self.self.undos.items (omega (arith, c.len-last.ensures)) in
       let so_far = c.loop-self.invariant.fewer in
       omega (arith, was, size, so_far, c.len-last.ensures, c.len.ensures, c.loop-self-test.true);
+  among =
+      let last = c.len-last.result - 1 in
+      subst (λ (xs : List Undo). All (Contains c.args.self.now.undos.items) xs)
+      (sym (c.truncate.ensures.items ∙ ap (take last) c.in_ok-put.ensures.undos))
+      (All-take (Contains c.args.self.now.undos.items) last c.loop-self.self.undos.items c.loop-self.invariant.among);
   undoes = λ first added was size.
       let (left, so_far) = c.loop-self.invariant.undoes first added was size in
       let (had, exchanges) = c.in_ok-put.ensures.puts in

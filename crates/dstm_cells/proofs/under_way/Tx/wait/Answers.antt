@@ -17,11 +17,11 @@ returns-in-Ok-Same-clause-follows g c = inl (record {
 
 pub returns-in-Ok-Changed-clause-follows : goal.returns-in-Ok-Changed-clause-follows
 returns-in-Ok-Changed-clause-follows g c =
-    inr (c.let_go.new.self.caller, c.let_go.ensures.changed (c.in-Ok-Changed.is ∙ ap Ok c.in-Ok-Changed.field-0-is))
+    inr (c.let_go.ensures.changed (c.in-Ok-Changed.is ∙ ap Ok c.in-Ok-Changed.field-0-is))
 
 pub returns-in-Ok-Spent-clause-follows : goal.returns-in-Ok-Spent-clause-follows
 returns-in-Ok-Spent-clause-follows g c =
-    inr (c.let_go.new.self.caller, c.let_go.ensures.spent (c.in-Ok-Spent.is ∙ ap Ok c.in-Ok-Spent.field-0-is))
+    inr (c.let_go.ensures.spent (c.in-Ok-Spent.is ∙ ap Ok c.in-Ok-Spent.field-0-is))
 
 pub returns-in-Err-clause-follows : goal.returns-in-Err-clause-follows
-returns-in-Err-clause-follows g c = inr (c.let_go.new.self.caller, c.in-Err.ensures.memory)
+returns-in-Err-clause-follows g c = inr c.in-Err.ensures.memory
