@@ -291,20 +291,20 @@ module _ (cells : Rows) where
 
   -- ---- the whole order
 
-  module _ (o root now : ℕ) (before mid near after : List Val) (o_is : o ≡ first + 3 * n)
+  module _ (o root now : ℕ) (before mid near after : List Val) (o_is : o ≡ first + 2 * n)
       (reads : Reads low_of o root before mid) (keeps : KeepsButForks first n before near)
       (sets : SetsRoot cells root now near after) where
     pub root_was : root ≡ root_in first n before
     root_was = reads.is ∙ ap (λ (x : ℕ). low_of (value_at before x)) o_is
 
     pub root_now : root_in first n after ≡ now
-    root_now = sets.is (ap low_of (keeps (first + 3 * n) (inl (omega arith))) ∙ sym root_was)
+    root_now = sets.is (ap low_of (keeps (first + 2 * n) (inl (omega arith))) ∙ sym root_was)
 
     words_same : (c : ℕ) → words_at cells after c ≡ words_at cells near c
-    words_same c = ap words_of (sets.others (first + 3 * n + 1 + c) (λ e. omega (arith, e)))
+    words_same c = ap words_of (sets.others (first + 2 * n + 1 + c) (λ e. omega (arith, e)))
 
     keys_same : (a : ℕ) → a < n → key_told cells after a ≡ key_told cells near a
-    keys_same a here = ap key_of (sets.others (first + 3 * a + 1) (λ e. omega (arith, e, here)))
+    keys_same a here = ap key_of (sets.others (first + 2 * a) (λ e. omega (arith, e, here)))
 
     held_there : (t : Trie) → HoldsIn first n near t → HoldsIn first n after t
     held_there t held =

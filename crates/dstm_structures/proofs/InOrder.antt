@@ -56,18 +56,18 @@ module _ (first n : ℕ) (some : 0 < n) where
 
   -- where a change sets nothing of the order, and no cell that tells keys or how far they are looked for
   pub order-apart : {V : Type 0} (found : Val → V) (before after : List Val) →
-      ((o : ℕ) → first ≤ o → o < first + 4 * n + 1 → ((q : ℕ) → q < n → o ≡ first + 3 * q + 2 → ⊥) →
+      ((o : ℕ) → first ≤ o → o < first + 3 * n + 1 → ((q : ℕ) → q < n → o ≡ first + 2 * q + 1 → ⊥) →
       value_at after o ≡ value_at before o) → IsOrdered first n before → IsOrdered first n after
   order-apart found before after same order =
       order-kept before after
-      (ap low_of (same (first + 3 * n) (omega arith) (omega (arith, some)) (λ q below e. omega (arith, e))))
+      (ap low_of (same (first + 2 * n) (omega arith) (omega (arith, some)) (λ q below e. omega (arith, e))))
       (λ p here. ap words_of
-      (same (first + 3 * n + 1 + p) (omega arith) (omega (arith, here)) (λ q below e. omega (arith, e, below))))
+      (same (first + 2 * n + 1 + p) (omega arith) (omega (arith, here)) (λ q below e. omega (arith, e, below))))
       (λ k. place-kept found first n some before after k
       (λ q below. ap (λ (v : Val). is_key k (key_of v))
-      (same (first + 3 * q + 1) (omega arith) (omega (arith, below)) (λ p here e. omega (arith, e))))
+      (same (first + 2 * q) (omega arith) (omega (arith, below)) (λ p here e. omega (arith, e))))
       (λ h below. ap (λ (v : Val). cond (nat_lt (reach_of v) n) (reach_of v) n)
-      (same (first + 3 * h) (omega arith) (omega (arith, below)) (λ p here e. omega (arith, e)))))
+      (same (first + 2 * h) (omega arith) (omega (arith, below)) (λ p here e. omega (arith, e)))))
       order
 
 module _ {V : Type 0} (found : Val → V) (map : OrderedMap V) where

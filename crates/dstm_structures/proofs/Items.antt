@@ -32,7 +32,7 @@ module _ {V : Type 0} (map : HashMap V) where
   abbrev first : ℕ
   first = map.cells.first
 
-  module _ (at o : ℕ) (held : Option ℕ) (before mid : List Val) (o_is : o ≡ first + 3 * at + 1)
+  module _ (at o : ℕ) (held : Option ℕ) (before mid : List Val) (o_is : o ≡ first + 2 * at)
       (reads : Reads key_of o held before mid) where
     -- a key that is found there is the one that was read
     read_there : (key : ℕ) → place_in first n before key ≡ Some at → held ≡ Some key
@@ -232,7 +232,7 @@ module _ {V : Type 0} (found : Val → V) (map : HashMap V) where
   }
 
   pub place-some : (at key o : ℕ) (value : V) (old new : List (ℕ × V)) (told : Option ℕ) (before mid after : List Val) →
-      o ≡ f + 3 * at + 2 → told ≡ Some key → new ≡ old ++ (key, value) ∷ [] → Stands map at told before mid →
+      o ≡ f + 2 * at + 1 → told ≡ Some key → new ≡ old ++ (key, value) ∷ [] → Stands map at told before mid →
       Reads found o value mid after → ListsPlace found map at old new before after
   place-some at key o value old new told before mid after o_is is grown s reads = record {
     key = told;

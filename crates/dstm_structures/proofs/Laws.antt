@@ -100,7 +100,7 @@ module _ {V : Type 0} {found : Val → V} {map : HashMap V} {before after : List
       ap (λ (xs : List Val). value_at xs cell) adds.behind ∙ get_or_append_left before adds.added no_value cell within
 
   -- and so many cells are there
-  pub added-length : length after ≡ length before + 3 * map.cells.capacity
+  pub added-length : length after ≡ length before + 2 * map.cells.capacity
   added-length =
       ap (length {A = Val}) adds.behind ∙ length-append before adds.added ∙ ap (λ (x : ℕ). length before + x) adds.count
 
@@ -120,12 +120,12 @@ module _ {V : Type 0} (found : Val → V) (map : HashMap V) where
   item-stays before after same key =
       item-same found f n map.cells.some before after key
       (place-kept found f n map.cells.some before after key
-      (λ q below. ap (λ (v : Val). is_key key (key_of v)) (same (f + 3 * q + 1) (omega arith) (omega (arith, below))))
+      (λ q below. ap (λ (v : Val). is_key key (key_of v)) (same (f + 2 * q) (omega arith) (omega (arith, below))))
       (λ h below. ap (λ (v : Val). cond (nat_lt (reach_of v) n) (reach_of v) n)
-      (same (f + 3 * h) (omega arith) (omega (arith, below)))))
+      (same (f + 2 * h) (omega arith) (omega (arith, below)))))
       (λ q at.
       let here = (place-holds f n map.cells.some before key q at).1 in
-      ap found (same (f + 3 * q + 2) (omega arith) (omega (arith, here))))
+      ap found (same (f + 2 * q + 1) (omega arith) (omega (arith, here))))
 
   -- where a key was put into another map, or taken out
   pub item-apart : {W : Type 0} {told : Val → W} {other : HashMap W} {k : ℕ} {now had : Option W} {before after : List Val} →

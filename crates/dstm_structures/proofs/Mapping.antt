@@ -1,5 +1,5 @@
 -- What the calls on a map do, by what they read and write.
-use Rattle.std.proofs.Common.{◌≡◌, ◌∙◌, ◌++◌, ◌==◌, ℕ, suc, ◌+◌, ◌*◌, ◌-◌, ◌<◌, ◌≤◌, Bool, true, false, List, ap, arith, cond, length, length-set, get_or-set_same, get_or-set_other, refl, sym, subst, slice_set, ◌⊎◌, inl, inr, nat_lt}
+use Rattle.std.proofs.Common.{◌≡◌, ◌∙◌, ◌++◌, ◌==◌, ℕ, suc, ◌+◌, ◌*◌, ◌/◌, ◌%◌, ◌-◌, ◌<◌, ◌≤◌, Bool, true, false, List, ap, arith, cond, length, get_or-set_same, get_or-set_other, refl, sym, subst, slice_set, ◌⊎◌, inl, inr, nat_lt}
 use Rattle.std.specs.Prelude.{Option, None, Some, is_some, replicate}
 use Rattle.std.proofs.lemmas.Bool.{cases_eq}
 use Rattle.std.proofs.lemmas.List.{get_or-append-add, get_or-replicate, length-replicate}
@@ -7,13 +7,19 @@ use Rattle.dstm_model.specs.declared.value.Val.{Val}
 use Rattle.dstm_model.specs.Map.{no_value, value_at}
 use Rattle.dstm_structures.specs.Circles.{behind}
 use Rattle.dstm_structures.specs.Places.{AreTaken, find, is_free, is_key}
-use Rattle.dstm_structures.specs.Maps.{Adds, Clears, ClearsAll, Empties, Extends, FreeAt, Inserts, InsertsAt, InsertsBy, Makes, NoneFree, Puts, Reaches, Seeks, Stores, Tells, TellsIf, at_place, end_of, home_in, homes, item_of, key_at, key_of, keys_in, outcome, place_in, reach_at, reach_of, values_in}
+use Rattle.dstm_structures.specs.Maps.{Adds, Clears, ClearsAll, Empties, Extends, FreeAt, Inserts, InsertsAt, InsertsBy, Makes, NoneFree, Puts, Reaches, Seeks, SetsKey, Stores, Tells, TellsIf, at_place, end_of, home_in, homes, item_of, key_at, key_of, keys_in, outcome, place_in, reach_at, reach_of, slot_of, values_in}
+use Rattle.dstm_structures.specs.declared.cells.Slot.{Slot}
 use Rattle.dstm_structures.specs.declared.map.HashMap.{HashMap}
 use Rattle.dstm_structures.specs.declared.map.Placed.{Placed}
 use Rattle.dstm_structures.specs.declared.map.Placed.TheVariants.{Instead}
 use Rattle.dstm_structures.proofs.Doing.{Reads, Writes}
 use Rattle.dstm_structures.proofs.Maps.{added-apart, added-here, added-other, added-there, home-within, item-same, place-kept, removed-here, replaced-here, replaced-other}
 use Rattle.dstm_structures.proofs.Places.{behind-below, distance, is_key-apart, key_is}
+
+-- what the first cell of a place tells was read, and so its key
+pub reads-key : {cell : ℕ} {slot : Slot} {before after : List Val} → Reads slot_of cell slot before after →
+    Reads key_of cell slot.key before after
+reads-key reads = record { is = ap (λ (s : Slot). s.key) reads.is; same = reads.same }
 
 module _ {V : Type 0} (map : HashMap V) where
   abbrev n : ℕ
@@ -24,26 +30,29 @@ module _ {V : Type 0} (map : HashMap V) where
 
   -- ---- at how many places keys are looked for
 
-  pub reach-few : (h o told reach : ℕ) (before after : List Val) → o ≡ first + 3 * h → told < n → reach ≡ told →
-      Reads reach_of o told before after → Reaches map h reach before after
-  reach-few h o told reach before after at few same reads =
-      let is : told ≡ reach_of (value_at before (first + 3 * h)) =
-      reads.is ∙ ap (λ (x : ℕ). reach_of (value_at before x)) at in
+  reach_read : (h o : ℕ) (slot : Slot) (before after : List Val) → o ≡ first + 2 * h → Reads slot_of o slot before after →
+      slot.reach ≡ reach_of (value_at before (first + 2 * h))
+  reach_read h o slot before after at reads =
+      ap (λ (s : Slot). s.reach) reads.is ∙ ap (λ (x : ℕ). reach_of (value_at before x)) at
+
+  pub reach-few : (h o : ℕ) (slot : Slot) (reach : ℕ) (before after : List Val) → o ≡ first + 2 * h → slot.reach < n →
+      reach ≡ slot.reach → Reads slot_of o slot before after → Reaches map h reach before after
+  reach-few h o slot reach before after at few same reads =
+      let is : slot.reach ≡ reach_of (value_at before (first + 2 * h)) = reach_read h o slot before after at reads in
       record { is = same ∙ grind (arith, is, few); same = reads.same }
 
-  pub reach-all : (h o told : ℕ) (before after : List Val) → o ≡ first + 3 * h → n ≤ told →
-      Reads reach_of o told before after → Reaches map h n before after
-  reach-all h o told before after at many reads =
-      let is : told ≡ reach_of (value_at before (first + 3 * h)) =
-      reads.is ∙ ap (λ (x : ℕ). reach_of (value_at before x)) at in
+  pub reach-all : (h o : ℕ) (slot : Slot) (before after : List Val) → o ≡ first + 2 * h → n ≤ slot.reach →
+      Reads slot_of o slot before after → Reaches map h n before after
+  reach-all h o slot before after at many reads =
+      let is : slot.reach ≡ reach_of (value_at before (first + 2 * h)) = reach_read h o slot before after at reads in
       record { is = grind (arith, is, many); same = reads.same }
 
   -- a place's key was read
-  key_read : (at o : ℕ) (held : Option ℕ) (before mid after : List Val) → o ≡ first + 3 * at + 1 → mid ≡ before →
+  key_read : (at o : ℕ) (held : Option ℕ) (before mid after : List Val) → o ≡ first + 2 * at → mid ≡ before →
       Reads key_of o held mid after → held ≡ key_at map before at
   key_read at o held before mid after o_is same reads =
       reads.is ∙ ap (λ (x : ℕ). key_of (value_at mid x)) o_is
-      ∙ ap (λ (xs : List Val). key_of (value_at xs (first + 3 * at + 1))) same
+      ∙ ap (λ (xs : List Val). key_of (value_at xs (first + 2 * at))) same
 
   -- ---- the search for a key
 
@@ -70,7 +79,7 @@ module _ {V : Type 0} (map : HashMap V) where
       }
 
   module _ (key reach passed h at o : ℕ) (held : Option ℕ) (before mid after : List Val) (more : passed < reach)
-      (home : h ≡ homes map key) (at_is : at ≡ behind n h passed) (o_is : o ≡ first + 3 * at + 1)
+      (home : h ≡ homes map key) (at_is : at ≡ behind n h passed) (o_is : o ≡ first + 2 * at)
       (s : Seeking key reach passed before mid) (reads : Reads key_of o held mid after) where
     step : find n (key_at map before) key (homes map key) passed (reach - passed)
         ≡ cond (is_key key held) (Some at) (find n (key_at map before) key (homes map key) (passed + 1) (reach - (passed + 1)))
@@ -122,7 +131,7 @@ module _ {V : Type 0} (map : HashMap V) where
   }
 
   module _ (h reach passed at o : ℕ) (held : Option ℕ) (beyond : Bool) (before mid after : List Val)
-      (at_is : at ≡ behind n h passed) (o_is : o ≡ first + 3 * at + 1)
+      (at_is : at ≡ behind n h passed) (o_is : o ≡ first + 2 * at)
       (beyond_is : beyond ≡ cond (nat_lt passed reach) false true) (p : Passing h reach passed before mid)
       (reads : Reads key_of o held mid after) where
     looked : is_free (homes map) h (cond (nat_lt passed (reach_at map before h)) false true)
@@ -154,39 +163,79 @@ module _ {V : Type 0} (map : HashMap V) where
 
   -- ---- what is set for a key that is added
 
-  pub extend-none : (h reach far : ℕ) (before after : List Val) → far ≤ reach → Reaches map h reach before after →
-      Extends map h far before after
-  extend-none h reach far before after enough r = record {
-    is = ap (λ (xs : List Val). reach_at map xs h) r.same ∙ stays (reach_at map before h) (omega (arith, r.is, enough));
-    others = λ o apart. ap (λ (xs : List Val). value_at xs o) r.same;
-  }
-    where
-      stays : (a : ℕ) → far ≤ a → a ≡ cond (nat_lt a far) far a
-      stays a le = grind (arith, le)
+  -- the first cell of a place was set to what this tells, where it told that
+  module _ (at o p : ℕ) (slot now had : Slot) (before mid after : List Val) (size : end_of map ≤ length before) (here : at < n)
+      (o_is : o ≡ first + 2 * at) (p_is : p ≡ first + 2 * at) (reads : Reads slot_of o slot before mid)
+      (writes : Writes slot_of p had now mid after) where
+    slot-was : slot ≡ slot_of (value_at before (first + 2 * at))
+    slot-was = reads.is ∙ ap (λ (x : ℕ). slot_of (value_at before x)) o_is
 
-  pub extend-more : (h reach far o was told : ℕ) (before mid after : List Val) → end_of map ≤ length before → h < n → far ≤ n →
-      o ≡ first + 3 * h → told ≡ far → reach < far → Reaches map h reach before mid →
-      Writes reach_of o was told mid after → Extends map h far before after
-  extend-more h reach far o was told before mid after size home most o_is told_is less r writes =
-      let whole : after ≡ slice_set before (first + 3 * h) writes.kept =
-      writes.after_is ∙ ap (λ (xs : List Val). slice_set xs o writes.kept) r.same
-      ∙ ap (λ (x : ℕ). slice_set before x writes.kept) o_is in
-      let top : reach_of (value_at after (first + 3 * h)) ≡ far =
-      ap (λ (xs : List Val). reach_of (value_at xs (first + 3 * h))) whole
-      ∙ ap reach_of (get_or-set_same before (first + 3 * h) writes.kept no_value (omega (arith, size, home)))
-      ∙ writes.is ∙ told_is in
+    slot-whole : after ≡ slice_set before (first + 2 * at) writes.kept
+    slot-whole =
+        writes.after_is ∙ ap (λ (xs : List Val). slice_set xs p writes.kept) reads.same
+        ∙ ap (λ (x : ℕ). slice_set before x writes.kept) p_is
+
+    slot-is : slot_of (value_at after (first + 2 * at)) ≡ now
+    slot-is =
+        ap (λ (xs : List Val). slot_of (value_at xs (first + 2 * at))) slot-whole
+        ∙ ap slot_of (get_or-set_same before (first + 2 * at) writes.kept no_value (omega (arith, size, here)))
+        ∙ writes.is
+
+    slot-others : (x : ℕ) → (x ≡ first + 2 * at → ⊥) → value_at after x ≡ value_at before x
+    slot-others x apart =
+        ap (λ (xs : List Val). value_at xs x) slot-whole
+        ∙ get_or-set_other before (first + 2 * at) x writes.kept no_value apart
+
+    pub sets-key : (key : Option ℕ) → now.key ≡ key → now.reach ≡ slot.reach → SetsKey map at key before after
+    sets-key key key_is reach_is = record {
+      is = ap (λ (s : Slot). s.key) slot-is ∙ key_is;
+      reaches = λ h. by h (cases_eq h at);
+      others = slot-others;
+    }
+      where
+        top : reach_of (value_at after (first + 2 * at)) ≡ reach_of (value_at before (first + 2 * at))
+        top = ap (λ (s : Slot). s.reach) slot-is ∙ reach_is ∙ ap (λ (s : Slot). s.reach) slot-was
+
+        by : (h : ℕ) → (h ≡ at) ⊎ (h ≡ at → ⊥) → reach_at map after h ≡ reach_at map before h
+        by h (inl same) =
+            ap (reach_at map after) same ∙ ap (λ (r : ℕ). cond (nat_lt r n) r n) top ∙ ap (reach_at map before) (sym same)
+        by h (inr apart) =
+            ap (λ (v : Val). cond (nat_lt (reach_of v) n) (reach_of v) n)
+            (slot-others (first + 2 * h) (λ e. apart (omega (arith, e))))
+
+    pub extend-more : (far : ℕ) → far ≤ n → now.reach ≡ far → now.key ≡ slot.key → slot.reach < far →
+        Extends map at far before after
+    extend-more far most reach_is key_is less =
+        let top : reach_of (value_at after (first + 2 * at)) ≡ far = ap (λ (s : Slot). s.reach) slot-is ∙ reach_is in
+        let low : reach_of (value_at before (first + 2 * at)) < far = omega (arith, ap (λ (s : Slot). s.reach) slot-was, less) in
+        record {
+          is = ap (λ (x : ℕ). cond (nat_lt x n) x n) top ∙ all far most
+              ∙ grows (reach_of (value_at before (first + 2 * at))) low most;
+          key = ap (λ (s : Slot). s.key) slot-is ∙ key_is ∙ ap (λ (s : Slot). s.key) slot-was;
+          others = slot-others;
+        }
+      where
+        all : (a : ℕ) → a ≤ n → cond (nat_lt a n) a n ≡ a
+        all a le = grind (arith, le)
+
+        grows : (a : ℕ) → a < far → far ≤ n →
+            far ≡ cond (nat_lt (cond (nat_lt a n) a n) far) far (cond (nat_lt a n) a n)
+        grows a lt le = grind (arith, lt, le)
+
+  pub extend-none : (h o : ℕ) (slot : Slot) (far : ℕ) (before after : List Val) → o ≡ first + 2 * h → far ≤ n →
+      far ≤ slot.reach → Reads slot_of o slot before after → Extends map h far before after
+  extend-none h o slot far before after at most enough reads =
+      let is : slot.reach ≡ reach_of (value_at before (first + 2 * h)) = reach_read h o slot before after at reads in
       record {
-        is = ap (λ (x : ℕ). cond (nat_lt x n) x n) top ∙ all far most
-            ∙ grows (reach_at map before h) (omega (arith, r.is, less));
-        others = λ x apart. ap (λ (xs : List Val). value_at xs x) whole
-            ∙ get_or-set_other before (first + 3 * h) x writes.kept no_value apart;
+        is = ap (λ (xs : List Val). reach_at map xs h) reads.same
+            ∙ stays (reach_of (value_at before (first + 2 * h))) (omega (arith, is, enough)) most;
+        key = ap (λ (xs : List Val). key_at map xs h) reads.same;
+        others = λ x apart. ap (λ (xs : List Val). value_at xs x) reads.same;
       }
     where
-      all : (a : ℕ) → a ≤ n → cond (nat_lt a n) a n ≡ a
-      all a le = grind (arith, le)
-
-      grows : (a : ℕ) → a < far → far ≡ cond (nat_lt a far) far a
-      grows a lt = grind (arith, lt)
+      stays : (a : ℕ) → far ≤ a → far ≤ n →
+          cond (nat_lt a n) a n ≡ cond (nat_lt (cond (nat_lt a n) a n) far) far (cond (nat_lt a n) a n)
+      stays a le most = grind (arith, le, most)
 
   -- ---- a key is taken out of its places
 
@@ -201,6 +250,7 @@ module _ {V : Type 0} (map : HashMap V) where
     clears = record {
       gone = λ j below. absurd (omega (arith, below));
       keys = λ k at apart. ap (λ (xs : List Val). is_key k (key_at map xs at)) r.same;
+      reaches = λ home. ap (λ (xs : List Val). reach_at map xs home) r.same;
       others = λ o out. ap (λ (xs : List Val). value_at xs o) r.same;
     };
   }
@@ -210,6 +260,7 @@ module _ {V : Type 0} (map : HashMap V) where
   clear-end key reach passed before after end c = record {
     gone = λ j below. c.clears.gone j (omega (arith, below, end, c.is));
     keys = c.clears.keys;
+    reaches = c.clears.reaches;
     others = c.clears.others;
   }
 
@@ -220,6 +271,7 @@ module _ {V : Type 0} (map : HashMap V) where
     clears = record {
       gone = λ j below. each j below (cases_eq (behind n (homes map key) j) at);
       keys = λ k p apart. e.keys k p apart ∙ c.clears.keys k p apart;
+      reaches = λ home. e.reaches home ∙ c.clears.reaches home;
       others = λ o out. e.others o (out at here) ∙ c.clears.others o out;
     };
   }
@@ -231,48 +283,41 @@ module _ {V : Type 0} (map : HashMap V) where
           let away : j ≡ passed → ⊥ =
           λ is. apart (ap (behind n (homes map key)) is ∙ sym (at_is ∙ ap (λ (x : ℕ). behind n x passed) home)) in
           ap (λ (v : Val). is_key key (key_of v))
-          (e.others (first + 3 * behind n (homes map key) j + 1) (λ is. apart (omega (arith, is))))
+          (e.others (first + 2 * behind n (homes map key) j) (λ is. apart (omega (arith, is))))
           ∙ c.clears.gone j (omega (arith, below, away))
 
-  pub empties-none : (at key o : ℕ) (held : Option ℕ) (before after : List Val) → o ≡ first + 3 * at + 1 →
+  pub empties-none : (at key o : ℕ) (held : Option ℕ) (before after : List Val) → o ≡ first + 2 * at →
       is_key key held ≡ false → Reads key_of o held before after → Empties map at key before after
   empties-none at key o held before after o_is other reads = record {
     gone = ap (λ (xs : List Val). is_key key (key_at map xs at)) reads.same
         ∙ ap (is_key key) (sym (key_read at o held before before after o_is refl reads)) ∙ other;
     keys = λ k p apart. ap (λ (xs : List Val). is_key k (key_at map xs p)) reads.same;
+    reaches = λ home. ap (λ (xs : List Val). reach_at map xs home) reads.same;
     others = λ x apart. ap (λ (xs : List Val). value_at xs x) reads.same;
   }
 
-  pub empties-some : (at key o p : ℕ) (held had : Option ℕ) (before mid after : List Val) → end_of map ≤ length before →
-      at < n → o ≡ first + 3 * at + 1 → p ≡ first + 3 * at + 1 → is_key key held ≡ true →
-      Reads key_of o held before mid → Writes key_of p had None mid after → Empties map at key before after
-  empties-some at key o p held had before mid after size here o_is p_is it reads writes =
-      let whole : after ≡ slice_set before (first + 3 * at + 1) writes.kept =
-      writes.after_is ∙ ap (λ (xs : List Val). slice_set xs p writes.kept) reads.same
-      ∙ ap (λ (x : ℕ). slice_set before x writes.kept) p_is in
-      let top : key_at map after at ≡ None =
-      ap (λ (xs : List Val). key_of (value_at xs (first + 3 * at + 1))) whole
-      ∙ ap key_of (get_or-set_same before (first + 3 * at + 1) writes.kept no_value (omega (arith, size, here)))
-      ∙ writes.is in
-      let kept : (x : ℕ) → (x ≡ first + 3 * at + 1 → ⊥) → value_at after x ≡ value_at before x =
-      λ x apart. ap (λ (xs : List Val). value_at xs x) whole
-      ∙ get_or-set_other before (first + 3 * at + 1) x writes.kept no_value apart in
-      record {
-        gone = ap (is_key key) top;
-        keys = λ k x apart. other k x apart top kept (cases_eq x at);
-        others = kept;
-      }
+  pub empties-some : (at key o : ℕ) (held : Option ℕ) (before mid after : List Val) → o ≡ first + 2 * at →
+      is_key key held ≡ true → Reads key_of o held before mid → SetsKey map at None mid after →
+      Empties map at key before after
+  empties-some at key o held before mid after o_is it reads sets = record {
+    gone = ap (is_key key) sets.is;
+    keys = λ k x apart. other k x apart (cases_eq x at);
+    reaches = λ home. sets.reaches home ∙ ap (λ (xs : List Val). reach_at map xs home) reads.same;
+    others = kept;
+  }
     where
-      other : (k x : ℕ) → (k ≡ key → ⊥) → key_at map after at ≡ None →
-          ((x : ℕ) → (x ≡ first + 3 * at + 1 → ⊥) → value_at after x ≡ value_at before x) → (x ≡ at) ⊎ (x ≡ at → ⊥) →
+      kept : (x : ℕ) → (x ≡ first + 2 * at → ⊥) → value_at after x ≡ value_at before x
+      kept x apart = sets.others x apart ∙ ap (λ (xs : List Val). value_at xs x) reads.same
+
+      other : (k x : ℕ) → (k ≡ key → ⊥) → (x ≡ at) ⊎ (x ≡ at → ⊥) →
           is_key k (key_at map after x) ≡ is_key k (key_at map before x)
-      other k x apart top kept (inl same) =
-          ap (λ (y : ℕ). is_key k (key_at map after y)) same ∙ ap (is_key k) top
+      other k x apart (inl same) =
+          ap (λ (y : ℕ). is_key k (key_at map after y)) same ∙ ap (is_key k) sets.is
           ∙ sym (is_key-apart k key (λ e. apart (sym e)))
           ∙ ap (is_key k) (sym (sym (key_read at o held before before mid o_is refl reads) ∙ key_is key held it))
           ∙ ap (λ (y : ℕ). is_key k (key_at map before y)) (sym same)
-      other k x apart top kept (inr away) =
-          ap (λ (v : Val). is_key k (key_of v)) (kept (first + 3 * x + 1) (λ e. away (omega (arith, e))))
+      other k x apart (inr away) =
+          ap (λ (v : Val). is_key k (key_of v)) (kept (first + 2 * x) (λ e. away (omega (arith, e))))
 
 -- ---- what the calls do
 
@@ -283,30 +328,24 @@ module _ {V : Type 0} (found : Val → V) (map : HashMap V) where
   abbrev m : ℕ
   m = map.cells.capacity
 
-  pub stores : (at key o p : ℕ) (value was : V) (had : Option ℕ) (before mid after : List Val) → end_of map ≤ length before →
-      at < m → o ≡ f + 3 * at + 1 → p ≡ f + 3 * at + 2 → Writes key_of o had (Some key) before mid →
-      Writes found p was value mid after → Stores found map at key value before after
-  stores at key o p value was had before mid after size here o_is p_is puts sets =
-      let one : ℕ = f + 3 * at + 1 in
-      let two : ℕ = f + 3 * at + 2 in
-      let middle : mid ≡ slice_set before one puts.kept =
-      puts.after_is ∙ ap (λ (x : ℕ). slice_set before x puts.kept) o_is in
-      let whole : after ≡ slice_set (slice_set before one puts.kept) two sets.kept =
-      sets.after_is ∙ ap (λ (x : ℕ). slice_set mid x sets.kept) p_is
-      ∙ ap (λ (xs : List Val). slice_set xs two sets.kept) middle in
-      let long : length (slice_set before one puts.kept) ≡ length before = length-set before one puts.kept in
+  pub stores : (at key p : ℕ) (value was : V) (before mid after : List Val) → end_of map ≤ length before → at < m →
+      p ≡ f + 2 * at + 1 → Writes found p was value before mid → SetsKey map at (Some key) mid after →
+      Stores found map at key value before after
+  stores at key p value was before mid after size here p_is sets puts =
+      let two : ℕ = f + 2 * at + 1 in
+      let whole : mid ≡ slice_set before two sets.kept =
+      sets.after_is ∙ ap (λ (x : ℕ). slice_set before x sets.kept) p_is in
+      let kept : (x : ℕ) → (x ≡ two → ⊥) → value_at mid x ≡ value_at before x =
+      λ x apart. ap (λ (xs : List Val). value_at xs x) whole ∙ get_or-set_other before two x sets.kept no_value apart in
       record {
-        key_is = ap (λ (xs : List Val). key_of (value_at xs one)) whole
-            ∙ ap key_of (get_or-set_other (slice_set before one puts.kept) two one sets.kept no_value
-            (λ e. omega (arith, e)) ∙ get_or-set_same before one puts.kept no_value (omega (arith, size, here)))
-            ∙ puts.is;
-        value_is = ap (λ (xs : List Val). found (value_at xs two)) whole
-            ∙ ap found (get_or-set_same (slice_set before one puts.kept) two sets.kept no_value
-            (omega (arith, long, size, here))) ∙ sets.is;
-        others = λ x away far.
-            ap (λ (xs : List Val). value_at xs x) whole
-            ∙ get_or-set_other (slice_set before one puts.kept) two x sets.kept no_value far
-            ∙ get_or-set_other before one x puts.kept no_value away;
+        key_is = puts.is;
+        value_is = ap found (puts.others two (λ e. omega (arith, e)))
+            ∙ ap (λ (xs : List Val). found (value_at xs two)) whole
+            ∙ ap found (get_or-set_same before two sets.kept no_value (omega (arith, size, here))) ∙ sets.is;
+        reaches = λ h.
+            puts.reaches h
+            ∙ ap (λ (v : Val). cond (nat_lt (reach_of v) m) (reach_of v) m) (kept (f + 2 * h) (λ e. omega (arith, e)));
+        others = λ x away far. puts.others x away ∙ kept x far;
       }
 
   -- a key's value is told
@@ -327,13 +366,13 @@ module _ {V : Type 0} (found : Val → V) (map : HashMap V) where
       there None = refl
       there (Some at) = refl
 
-  at_gap : (gap p : ℕ) (v : V) (before mid : List Val) → p ≡ f + 3 * gap + 2 → mid ≡ before →
+  at_gap : (gap p : ℕ) (v : V) (before mid : List Val) → p ≡ f + 2 * gap + 1 → mid ≡ before →
       v ≡ found (value_at mid p) → v ≡ values_in found f before gap
   at_gap gap p v before mid p_is same is =
       is ∙ ap (λ (x : ℕ). found (value_at mid x)) p_is
-      ∙ ap (λ (xs : List Val). found (value_at xs (f + 3 * gap + 2))) same
+      ∙ ap (λ (xs : List Val). found (value_at xs (f + 2 * gap + 1))) same
 
-  pub tells-some : (key gap p : ℕ) (v : V) (before mid after : List Val) → p ≡ f + 3 * gap + 2 →
+  pub tells-some : (key gap p : ℕ) (v : V) (before mid after : List Val) → p ≡ f + 2 * gap + 1 →
       Seeks map key (Some gap) before mid → Reads found p v mid after → Tells found map key (Some v) before after
   tells-some key gap p v before mid after p_is s reads = record {
     is = ap Some (at_gap gap p v before mid p_is s.same reads.is)
@@ -343,10 +382,10 @@ module _ {V : Type 0} (found : Val → V) (map : HashMap V) where
 
   -- a key gets another value
   pub puts-instead : (key gap p : ℕ) (had value : V) (before mid after : List Val) → 0 < m → end_of map ≤ length before →
-      gap < m → p ≡ f + 3 * gap + 2 → Seeks map key (Some gap) before mid → Writes found p had value mid after →
+      gap < m → p ≡ f + 2 * gap + 1 → Seeks map key (Some gap) before mid → Writes found p had value mid after →
       Puts found map key value (Instead had) before after
   puts-instead key gap p had value before mid after some size here p_is s writes =
-      let at : ℕ = f + 3 * gap + 2 in
+      let at : ℕ = f + 2 * gap + 1 in
       let whole : after ≡ slice_set before at writes.kept =
       writes.after_is ∙ ap (λ (xs : List Val). slice_set xs p writes.kept) s.same
       ∙ ap (λ (x : ℕ). slice_set before x writes.kept) p_is in
@@ -354,9 +393,9 @@ module _ {V : Type 0} (found : Val → V) (map : HashMap V) where
       λ x apart. ap (λ (xs : List Val). value_at xs x) whole ∙ get_or-set_other before at x writes.kept no_value apart in
       let place : (k : ℕ) → place_in f m after k ≡ place_in f m before k =
       λ k. place-kept found f m some before after k
-      (λ q below. ap (λ (v : Val). is_key k (key_of v)) (kept (f + 3 * q + 1) (λ e. omega (arith, e))))
+      (λ q below. ap (λ (v : Val). is_key k (key_of v)) (kept (f + 2 * q) (λ e. omega (arith, e))))
       (λ h below. ap (λ (v : Val). cond (nat_lt (reach_of v) m) (reach_of v) m)
-      (kept (f + 3 * h) (λ e. omega (arith, e)))) in
+      (kept (f + 2 * h) (λ e. omega (arith, e)))) in
       record {
         was = ap (at_place (values_in found f before)) s.is
             ∙ ap Some (sym (at_gap gap p had before mid p_is s.same writes.was));
@@ -364,12 +403,12 @@ module _ {V : Type 0} (found : Val → V) (map : HashMap V) where
             (ap (λ (xs : List Val). found (value_at xs at)) whole
             ∙ ap found (get_or-set_same before at writes.kept no_value (omega (arith, size, here))) ∙ writes.is);
         others = λ k apart. replaced-other found f m some before after key gap k apart s.is (place k)
-            (λ q below away. ap found (kept (f + 3 * q + 2) (λ e. away (omega (arith, e)))));
+            (λ q below away. ap found (kept (f + 2 * q + 1) (λ e. away (omega (arith, e)))));
         around = λ x out. beside x out kept;
       }
     where
-      beside : (x : ℕ) → (x < f) ⊎ (f + 3 * m ≤ x) →
-          ((x : ℕ) → (x ≡ f + 3 * gap + 2 → ⊥) → value_at after x ≡ value_at before x) →
+      beside : (x : ℕ) → (x < f) ⊎ (f + 2 * m ≤ x) →
+          ((x : ℕ) → (x ≡ f + 2 * gap + 1 → ⊥) → value_at after x ≡ value_at before x) →
           value_at after x ≡ value_at before x
       beside x (inl low) kept = kept x (λ e. omega (arith, e, low))
       beside x (inr high) kept = kept x (λ e. omega (arith, e, high, here))
@@ -438,41 +477,43 @@ module _ {V : Type 0} (found : Val → V) (map : HashMap V) where
       place : p < m
       place = behind-below m h i homed few
 
-      kept : (x : ℕ) → (x ≡ f + 3 * p + 1 → ⊥) → (x ≡ f + 3 * p + 2 → ⊥) → (x ≡ f + 3 * h → ⊥) →
+      kept : (x : ℕ) → (x ≡ f + 2 * p → ⊥) → (x ≡ f + 2 * p + 1 → ⊥) → (x ≡ f + 2 * h → ⊥) →
           value_at after x ≡ value_at before x
       kept x one two three = e.others x three ∙ s.others x one two
 
+      keys_stay : (q : ℕ) → keys_in f after q ≡ keys_in f near q
+      keys_stay q = by (cases_eq q h)
+        where
+          by : (q ≡ h) ⊎ (q ≡ h → ⊥) → keys_in f after q ≡ keys_in f near q
+          by (inl same) = ap (keys_in f after) same ∙ e.key ∙ ap (keys_in f near) (sym same)
+          by (inr apart) = ap key_of (e.others (f + 2 * q) (λ same. apart (omega (arith, same))))
+
       there : keys_in f after p ≡ Some key
-      there = ap key_of (e.others (f + 3 * p + 1) (λ same. omega (arith, same))) ∙ s.key_is
+      there = keys_stay p ∙ s.key_is
 
       others : (q : ℕ) → q < m → (q ≡ p → ⊥) → keys_in f after q ≡ keys_in f before q
       others q below apart =
-          ap key_of (kept (f + 3 * q + 1) (λ same. apart (omega (arith, same))) (λ same. omega (arith, same))
-          (λ same. omega (arith, same)))
-
-      reach_near : (x : ℕ) → x < m → reach_at map near x ≡ reach_at map before x
-      reach_near x below =
-          ap (λ (v : Val). cond (nat_lt (reach_of v) m) (reach_of v) m)
-          (s.others (f + 3 * x) (λ same. omega (arith, same)) (λ same. omega (arith, same)))
+          keys_stay q
+          ∙ ap key_of (s.others (f + 2 * q) (λ same. apart (omega (arith, same))) (λ same. omega (arith, same)))
 
       far : reach_at map after h ≡ cond (nat_lt (reach_at map before h) (i + 1)) (i + 1) (reach_at map before h)
-      far = e.is ∙ ap (λ (r : ℕ). cond (nat_lt r (i + 1)) (i + 1) r) (reach_near h homed)
+      far = e.is ∙ ap (λ (r : ℕ). cond (nat_lt r (i + 1)) (i + 1) r) (s.reaches h)
 
       as_far : (x : ℕ) → x < m → (x ≡ h → ⊥) → reach_at map after x ≡ reach_at map before x
       as_far x below apart =
           ap (λ (v : Val). cond (nat_lt (reach_of v) m) (reach_of v) m)
-          (e.others (f + 3 * x) (λ same. apart (omega (arith, same))))
-          ∙ reach_near x below
+          (e.others (f + 2 * x) (λ same. apart (omega (arith, same))))
+          ∙ s.reaches x
 
       is : values_in found f after p ≡ value
-      is = ap found (e.others (f + 3 * p + 2) (λ same. omega (arith, same))) ∙ s.value_is
+      is = ap found (e.others (f + 2 * p + 1) (λ same. omega (arith, same))) ∙ s.value_is
 
       values : (q : ℕ) → q < m → (q ≡ p → ⊥) → values_in found f after q ≡ values_in found f before q
       values q below apart =
-          ap found (kept (f + 3 * q + 2) (λ same. omega (arith, same)) (λ same. apart (omega (arith, same)))
+          ap found (kept (f + 2 * q + 1) (λ same. omega (arith, same)) (λ same. apart (omega (arith, same)))
           (λ same. omega (arith, same)))
 
-      beside : (x : ℕ) → (x < f) ⊎ (f + 3 * m ≤ x) → value_at after x ≡ value_at before x
+      beside : (x : ℕ) → (x < f) ⊎ (f + 2 * m ≤ x) → value_at after x ≡ value_at before x
       beside x (inl low) =
           kept x (λ same. omega (arith, same, low)) (λ same. omega (arith, same, low)) (λ same. omega (arith, same, low))
       beside x (inr high) =
@@ -496,19 +537,14 @@ module _ {V : Type 0} (found : Val → V) (map : HashMap V) where
       ClearsAll map key before after → Makes found map key None (Some had) before after
   takes-here key had before after some was c = record {
     was = was;
-    is = removed-here found f m some before after key c.gone (reach (home_in m key) (home-within m some key));
+    is = removed-here found f m some before after key c.gone (c.reaches (home_in m key));
     others = λ k apart. item-same found f m some before after k
-        (place-kept found f m some before after k (λ q below. c.keys k q apart) reach)
-        (λ q there. ap found (c.others (f + 3 * q + 2) (λ at here e. omega (arith, e))));
+        (place-kept found f m some before after k (λ q below. c.keys k q apart) (λ h below. c.reaches h))
+        (λ q there. ap found (c.others (f + 2 * q + 1) (λ at here e. omega (arith, e))));
     around = λ x out. beside x out;
   }
     where
-      reach : (h : ℕ) → h < m → reach_at map after h ≡ reach_at map before h
-      reach h below =
-          ap (λ (v : Val). cond (nat_lt (reach_of v) m) (reach_of v) m)
-          (c.others (f + 3 * h) (λ at here e. omega (arith, e)))
-
-      beside : (x : ℕ) → (x < f) ⊎ (f + 3 * m ≤ x) → value_at after x ≡ value_at before x
+      beside : (x : ℕ) → (x < f) ⊎ (f + 2 * m ≤ x) → value_at after x ≡ value_at before x
       beside x (inl low) = c.others x (λ at here e. omega (arith, e, low))
       beside x (inr high) = c.others x (λ at here e. omega (arith, e, high, here))
 
@@ -520,7 +556,7 @@ module _ {V : Type 0} (found : Val → V) (map : HashMap V) where
 
   -- a map is made, and maybe more behind its cells
   module _ (cells : ℕ) (kept : Val) (before after : List Val) (whole : after ≡ before ++ replicate cells kept)
-      (low : kept.low ≡ 0) (high : kept.high ≡ 0) (start : f ≡ length before) (many : 3 * m ≤ cells) (some : 0 < m) where
+      (high : kept.high ≡ 0) (start : f ≡ length before) (many : 2 * m ≤ cells) (some : 0 < m) where
     pub made-each : (x o : ℕ) → x < cells → o ≡ f + x → value_at after o ≡ kept
     made-each x o less o_is =
         ap (λ (xs : List Val). value_at xs o) whole ∙ ap (value_at (before ++ replicate cells kept)) (o_is ∙ ap (λ (a : ℕ). a + x) start)
@@ -530,14 +566,14 @@ module _ {V : Type 0} (found : Val → V) (map : HashMap V) where
     none : (h : ℕ) → h < m → reach_at map after h ≡ 0
     none h here =
         ap (λ (v : Val). cond (nat_lt (reach_of v) m) (reach_of v) m)
-        (made-each (3 * h) (f + 3 * h) (omega (arith, here, many)) refl)
-        ∙ zero_reach kept.low low
+        (made-each (2 * h) (f + 2 * h) (omega (arith, here, many)) refl)
+        ∙ zero_reach (reach_of kept) (ap (λ (x : ℕ). x / 4294967296) high)
       where
         zero_reach : (a : ℕ) → a ≡ 0 → cond (nat_lt a m) a m ≡ 0
         zero_reach a is = grind (arith, is, some)
 
     unkeyed : (v : Val) → v.high ≡ 0 → key_of v ≡ None
-    unkeyed v is = ap (λ (h : ℕ). cond (h == 1) (Some v.low) None) is
+    unkeyed v is = ap (λ (h : ℕ). cond (h % 4294967296 == 1) (Some v.low) None) is
 
     pub made-unplaced : (key : ℕ) → place_in f m after key ≡ None
     made-unplaced key =
@@ -548,18 +584,18 @@ module _ {V : Type 0} (found : Val → V) (map : HashMap V) where
 
     pub made-free : (at : ℕ) → at < m → key_at map after at ≡ None
     made-free at here =
-        ap key_of (made-each (3 * at + 1) (f + 3 * at + 1) (omega (arith, here, many)) (omega arith))
+        ap key_of (made-each (2 * at) (f + 2 * at) (omega (arith, here, many)) refl)
         ∙ unkeyed kept high
 
   pub makes : (cells : ℕ) (kept : Val) (before after : List Val) → after ≡ before ++ replicate cells kept →
-      kept.low ≡ 0 → kept.high ≡ 0 → f ≡ length before → cells ≡ 3 * m → 0 < m → Adds found map before after
-  makes cells kept before after whole low high start count some =
-      let many : 3 * m ≤ cells = omega (arith, count) in
+      kept.high ≡ 0 → f ≡ length before → cells ≡ 2 * m → 0 < m → Adds found map before after
+  makes cells kept before after whole high start count some =
+      let many : 2 * m ≤ cells = omega (arith, count) in
       record {
         added = replicate cells kept;
         behind = whole;
         first = start;
         count = length-replicate cells kept ∙ count;
-        empty = made-empty cells kept before after whole low high start many some;
-        free = made-free cells kept before after whole low high start many some;
+        empty = made-empty cells kept before after whole high start many some;
+        free = made-free cells kept before after whole high start many some;
       }

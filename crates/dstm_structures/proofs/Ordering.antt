@@ -175,7 +175,7 @@ module _ (cells : Rows) where
           (g.is (2 * prefix + 1) r right_is (held-same before near r (e.same ∙ same) r_held) b.3))
 
   module _ (key link under at o : ℕ) (held : Option ℕ) (before after : List Val) (to : Tip at ≡ link_in n link)
-      (o_is : o ≡ first + 3 * at + 1) (reads : Reads key_of o held before after) where
+      (o_is : o ≡ first + 2 * at) (reads : Reads key_of o held before after) where
     somewhere-tip : link ≡ 0 → ⊥
     somewhere-tip zero = tip-not-nothing at (sym (to ∙ ap (link_in n) zero))
 
@@ -219,7 +219,7 @@ module _ (cells : Rows) where
   -- ---- the whole trie
 
   pub finds-all : (finds : Option ℕ → Trie → Type 0) (o link : ℕ) (answer : Option ℕ) (before mid after : List Val) →
-      o ≡ first + 3 * n → Reads low_of o link before mid → Finds cells finds link 64 answer mid after →
+      o ≡ first + 2 * n → Reads low_of o link before mid → Finds cells finds link 64 answer mid after →
       FindsAll cells finds answer before after
   finds-all finds o link answer before mid after o_is reads e = record {
     is = λ t by. e.is 0 t (link_is ∙ by.root) (held-same before mid t reads.same by.held) by.split;

@@ -35,35 +35,35 @@ module _ {V : Type 0} (found : Val → V) (map : OrderedMap V) where
   -- ---- a map is made
 
   pub makes : (cells : ℕ) (kept : Val) (before after : List Val) → after ≡ before ++ replicate cells kept →
-      kept.low ≡ 0 → kept.high ≡ 0 → f ≡ length before → cells ≡ 4 * n + 1 → Adds found map before after
+      kept.low ≡ 0 → kept.high ≡ 0 → f ≡ length before → cells ≡ 3 * n + 1 → Adds found map before after
   makes cells kept before after whole low high start count =
-      let many : 3 * n ≤ cells = omega (arith, count) in
+      let many : 2 * n ≤ cells = omega (arith, count) in
       record {
         added = replicate cells kept;
         behind = whole;
         first = start;
         count = length-replicate cells kept ∙ count;
-        empty = made-empty found map.map cells kept before after whole low high start many some;
+        empty = made-empty found map.map cells kept before after whole high start many some;
         order = inl (record {
-          root = ap low_of (made-each found map.map cells kept before after whole low high start many some (3 * n) (f + 3 * n)
+          root = ap low_of (made-each found map.map cells kept before after whole high start many some (2 * n) (f + 2 * n)
               (omega (arith, count)) refl) ∙ low;
-          none = made-unplaced found map.map cells kept before after whole low high start many some;
+          none = made-unplaced found map.map cells kept before after whole high start many some;
         });
       }
 
   -- ---- a value is set
 
   -- the objects around a map and its order are around the map
-  outside : (o : ℕ) → (o < f) ⊎ (order_end map.map.cells ≤ o) → (o < f) ⊎ (f + 3 * n ≤ o)
+  outside : (o : ℕ) → (o < f) ⊎ (order_end map.map.cells ≤ o) → (o < f) ⊎ (f + 2 * n ≤ o)
   outside o (inl low) = inl low
   outside o (inr high) = inr (omega (arith, high))
 
-  around-order : (o : ℕ) → (o < f) ⊎ (order_end map.map.cells ≤ o) → (o < f + 3 * n) ⊎ (f + 4 * n + 1 ≤ o)
+  around-order : (o : ℕ) → (o < f) ⊎ (order_end map.map.cells ≤ o) → (o < f + 2 * n) ⊎ (f + 3 * n + 1 ≤ o)
   around-order o (inl low) = inl (omega (arith, low))
   around-order o (inr high) = inr high
 
-  pub puts-instead : (key gap p : ℕ) (had value : V) (before mid after : List Val) → f + 3 * n ≤ length before → gap < n →
-      p ≡ f + 3 * gap + 2 → Seeks map.map key (Some gap) before mid → Writes found p had value mid after →
+  pub puts-instead : (key gap p : ℕ) (had value : V) (before mid after : List Val) → f + 2 * n ≤ length before → gap < n →
+      p ≡ f + 2 * gap + 1 → Seeks map.map key (Some gap) before mid → Writes found p had value mid after →
       Puts found map key value (Instead had) before after
   puts-instead key gap p had value before mid after size here p_is s writes =
       let done = mapping.puts-instead found map.map key gap p had value before mid after some size here p_is s writes in
@@ -86,14 +86,14 @@ module _ {V : Type 0} (found : Val → V) (map : OrderedMap V) where
     places-stay : (k : ℕ) → place_in f n after k ≡ place_in f n before k
     places-stay k =
         place-kept found f n some before after k
-        (λ q below. ap (λ (v : Val). is_key k (key_of v)) (others (f + 3 * q + 1) (inl (omega (arith, below)))))
+        (λ q below. ap (λ (v : Val). is_key k (key_of v)) (others (f + 2 * q) (inl (omega (arith, below)))))
         (λ h below. ap (λ (v : Val). cond (nat_lt (reach_of v) n) (reach_of v) n)
-        (others (f + 3 * h) (inl (omega (arith, below)))))
+        (others (f + 2 * h) (inl (omega (arith, below)))))
 
     items-stay : (k : ℕ) → item_of found map.map after k ≡ item_of found map.map before k
     items-stay k =
         item-same found f n some before after k (places-stay k)
-        (λ q at. ap found (others (f + 3 * q + 2) (inl (omega (arith, (place-holds f n some before k q at).1)))))
+        (λ q at. ap found (others (f + 2 * q + 1) (inl (omega (arith, (place-holds f n some before k q at).1)))))
 
   -- ---- a key is added
 
@@ -102,10 +102,10 @@ module _ {V : Type 0} (found : Val → V) (map : OrderedMap V) where
       (put : InsertsAt found map.map key at value before mid) (a : AddsKey map.map.cells key at cell mid after) where
     -- the order is as it was, until the key is added to it
     root-stays : root_in f n mid ≡ root_in f n before
-    root-stays = ap low_of (put.makes.around (f + 3 * n) (inr (omega arith)))
+    root-stays = ap low_of (put.makes.around (f + 2 * n) (inr (omega arith)))
 
     forks-stay : (p : ℕ) → forks_in f n mid p ≡ forks_in f n before p
-    forks-stay p = ap words_of (put.makes.around (f + 3 * n + 1 + p) (inr (omega arith)))
+    forks-stay p = ap words_of (put.makes.around (f + 2 * n + 1 + p) (inr (omega arith)))
 
     here : keys_in f mid at ≡ Some key
     here = (place-holds f n some mid key at put.there).0
@@ -218,21 +218,16 @@ module _ {V : Type 0} (found : Val → V) (map : OrderedMap V) where
         })
         c
 
-    reach-stays : (h : ℕ) → h < n → reach_in f n after h ≡ reach_in f n mid h
-    reach-stays h below =
-        ap (λ (v : Val). cond (nat_lt (reach_of v) n) (reach_of v) n)
-        (c.others (f + 3 * h) (λ at here e. omega (arith, e)))
-
     -- where keys are found in the end
     placed-nowhere : place_in f n after key ≡ None
     placed-nowhere = no-place found map after key cleared.is
 
     placed-as-before : (k : ℕ) → (k ≡ key → ⊥) → place_in f n after k ≡ place_in f n before k
     placed-as-before k apart =
-        place-kept found f n some mid after k (λ q below. c.keys k q apart) reach-stays ∙ places-stay before mid d.others k
+        place-kept found f n some mid after k (λ q below. c.keys k q apart) (λ h below. c.reaches h) ∙ places-stay before mid d.others k
 
     root-after : root_in f n after ≡ root_in f n mid
-    root-after = ap low_of (c.others (f + 3 * n) (λ at here e. omega (arith, e)))
+    root-after = ap low_of (c.others (f + 2 * n) (λ at here e. omega (arith, e)))
 
     order-taken : IsOrdered f n before → IsOrdered f n after
     order-taken (inl bare) = absurd (none_not at (sym (bare.none key) ∙ place))
@@ -261,7 +256,7 @@ module _ {V : Type 0} (found : Val → V) (map : OrderedMap V) where
           record {
             root = root-after ∙ r.is;
             held = holds-by n (keys_in f mid) (keys_in f after) (forks_in f n mid) (forks_in f n after)
-                (λ p below. ap words_of (c.others (f + 3 * n + 1 + p) (λ at here e. omega (arith, e, here)))) r.rest
+                (λ p below. ap words_of (c.others (f + 2 * n + 1 + p) (λ at here e. omega (arith, e, here)))) r.rest
                 (λ p k h. (place-holds f n some after k p (stands p k h)).0) r.held;
             split = r.below;
             there = stands;
@@ -293,7 +288,7 @@ module _ {V : Type 0} (found : Val → V) (map : OrderedMap V) where
   takes-key key at before mid after d c place = taken key at before mid after place d c
 
   -- a key was found, its value read, and it was taken out
-  pub removes-some : (key at p : ℕ) (value : V) (before near mid after : List Val) → p ≡ f + 3 * at + 2 →
+  pub removes-some : (key at p : ℕ) (value : V) (before near mid after : List Val) → p ≡ f + 2 * at + 1 →
       Seeks map.map key (Some at) before near → Reads found p value near mid → Takes found map key at mid after →
       Removes found map key (Some value) before after
   removes-some key at p value before near mid after p_is s reads takes =
@@ -343,12 +338,12 @@ module _ {V : Type 0} (found : Val → V) (map : OrderedMap V) where
   pub looks-nowhere : (place : Option ℕ) (values : List Val) → place ≡ None → Looks found map place None values values
   looks-nowhere place values none = record { is = sym (ap (entry_at found map values) none); same = refl }
 
-  key_seen : (at o : ℕ) (held : Option ℕ) (before mid : List Val) → o ≡ f + 3 * at + 1 →
+  key_seen : (at o : ℕ) (held : Option ℕ) (before mid : List Val) → o ≡ f + 2 * at →
       Reads key_of o held before mid → held ≡ key_at map.map before at
   key_seen at o held before mid o_is reads = reads.is ∙ ap (λ (x : ℕ). key_of (value_at before x)) o_is
 
   pub looks-keyless : (place : Option ℕ) (at o : ℕ) (held : Option ℕ) (before after : List Val) → place ≡ Some at →
-      o ≡ f + 3 * at + 1 → held ≡ None → Reads key_of o held before after → Looks found map place None before after
+      o ≡ f + 2 * at → held ≡ None → Reads key_of o held before after → Looks found map place None before after
   looks-keyless place at o held before after at_is o_is none reads = record {
     is = sym (ap (entry_at found map before) at_is
         ∙ ap (λ (k : Option ℕ). entry_of found map k (values_in found f before at))
@@ -357,7 +352,7 @@ module _ {V : Type 0} (found : Val → V) (map : OrderedMap V) where
   }
 
   pub looks-there : (place : Option ℕ) (at o p key : ℕ) (held : Option ℕ) (value : V) (before mid after : List Val) →
-      place ≡ Some at → o ≡ f + 3 * at + 1 → p ≡ f + 3 * at + 2 → held ≡ Some key → Reads key_of o held before mid →
+      place ≡ Some at → o ≡ f + 2 * at → p ≡ f + 2 * at + 1 → held ≡ Some key → Reads key_of o held before mid →
       Reads found p value mid after → Looks found map place (Some (key, value)) before after
   looks-there place at o p key held value before mid after at_is o_is p_is some_key reads sees =
       let here : value ≡ values_in found f before at =

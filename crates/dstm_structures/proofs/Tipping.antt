@@ -31,16 +31,16 @@ module _ (cells : Rows) where
 
   pub keys_stay : (before after : List Val) → KeepsButForks first n before after → (p : ℕ) → p < n →
       key_told cells after p ≡ key_told cells before p
-  keys_stay before after keeps p here = ap key_of (keeps (first + 3 * p + 1) (inl (omega (arith, here))))
+  keys_stay before after keeps p here = ap key_of (keeps (first + 2 * p) (inl (omega (arith, here))))
 
   pub keys_stay_one : (cell : ℕ) (before after : List Val) → KeepsButFork cells cell before after → (p : ℕ) → p < n →
       key_told cells after p ≡ key_told cells before p
-  keys_stay_one cell before after keeps p here = ap key_of (keeps (first + 3 * p + 1) (λ e. omega (arith, e, here)))
+  keys_stay_one cell before after keeps p here = ap key_of (keeps (first + 2 * p) (λ e. omega (arith, e, here)))
 
   pub words_stay : (cell : ℕ) (before after : List Val) → KeepsButFork cells cell before after → (c : ℕ) → (c ≡ cell → ⊥) →
       words_at cells after c ≡ words_at cells before c
   words_stay cell before after keeps c apart =
-      ap words_of (keeps (first + 3 * n + 1 + c) (λ e. apart (omega (arith, e))))
+      ap words_of (keeps (first + 2 * n + 1 + c) (λ e. apart (omega (arith, e))))
 
   pub one_fork : (cell : ℕ) (before after : List Val) → cell < n → KeepsButFork cells cell before after →
       KeepsButForks first n before after
@@ -56,7 +56,7 @@ module _ (cells : Rows) where
 
   -- ---- one fork's cell
 
-  pub look_fork_is : (cell o : ℕ) (held : ℕ × ℕ) (told : Fork) (before after : List Val) → o ≡ first + 3 * n + 1 + cell →
+  pub look_fork_is : (cell o : ℕ) (held : ℕ × ℕ) (told : Fork) (before after : List Val) → o ≡ first + 2 * n + 1 + cell →
       told.level ≡ level_in held.1 → told.prefix ≡ held.0 → told.left ≡ left_in held.1 → told.right ≡ right_in held.1 →
       Reads words_of o held before after → LooksFork cells cell told before after
   look_fork_is cell o held told before after at level prefix left right reads =
@@ -72,18 +72,18 @@ module _ (cells : Rows) where
       }
 
   module _ (cell o : ℕ) (had pair : ℕ × ℕ) (before after : List Val) (size : order_end cells ≤ length before)
-      (here : cell < n) (at : o ≡ first + 3 * n + 1 + cell) (writes : Writes words_of o had pair before after) where
+      (here : cell < n) (at : o ≡ first + 2 * n + 1 + cell) (writes : Writes words_of o had pair before after) where
     written_fork : words_at cells after cell ≡ pair
     written_fork =
-        ap (λ (xs : List Val). words_of (value_at xs (first + 3 * n + 1 + cell)))
+        ap (λ (xs : List Val). words_of (value_at xs (first + 2 * n + 1 + cell)))
         (writes.after_is ∙ ap (λ (x : ℕ). slice_set before x writes.kept) at)
-        ∙ ap words_of (get_or-set_same before (first + 3 * n + 1 + cell) writes.kept no_value (omega (arith, size, here)))
+        ∙ ap words_of (get_or-set_same before (first + 2 * n + 1 + cell) writes.kept no_value (omega (arith, size, here)))
         ∙ writes.is
 
     others_stay : KeepsButFork cells cell before after
     others_stay x apart =
         ap (λ (xs : List Val). value_at xs x) (writes.after_is ∙ ap (λ (y : ℕ). slice_set before y writes.kept) at)
-        ∙ get_or-set_other before (first + 3 * n + 1 + cell) x writes.kept no_value apart
+        ∙ get_or-set_other before (first + 2 * n + 1 + cell) x writes.kept no_value apart
 
     pub set_fork_is : (told : Fork) → pair.0 ≡ told.prefix → level_in pair.1 ≡ told.level → left_in pair.1 ≡ told.left →
         right_in pair.1 ≡ told.right → SetsFork cells cell told before after
@@ -142,16 +142,16 @@ module _ (cells : Rows) where
   pub root_is : (was now : ℕ) (values : List Val) → was ≡ now → SetsRoot cells was now values values
   root_is was now values is = record { is = λ e. e ∙ is; others = λ o apart. refl }
 
-  pub root_set : (o was had now : ℕ) (before after : List Val) → order_end cells ≤ length before → o ≡ first + 3 * n →
+  pub root_set : (o was had now : ℕ) (before after : List Val) → order_end cells ≤ length before → o ≡ first + 2 * n →
       Writes low_of o had now before after → SetsRoot cells was now before after
   root_set o was had now before after size at writes = record {
-    is = λ _. ap (λ (xs : List Val). low_of (value_at xs (first + 3 * n))) written
-        ∙ ap low_of (get_or-set_same before (first + 3 * n) writes.kept no_value (omega (arith, size))) ∙ writes.is;
+    is = λ _. ap (λ (xs : List Val). low_of (value_at xs (first + 2 * n))) written
+        ∙ ap low_of (get_or-set_same before (first + 2 * n) writes.kept no_value (omega (arith, size))) ∙ writes.is;
     others = λ x other. ap (λ (xs : List Val). value_at xs x) written
-        ∙ get_or-set_other before (first + 3 * n) x writes.kept no_value other;
+        ∙ get_or-set_other before (first + 2 * n) x writes.kept no_value other;
   }
     where
-      written : after ≡ slice_set before (first + 3 * n) writes.kept
+      written : after ≡ slice_set before (first + 2 * n) writes.kept
       written = writes.after_is ∙ ap (λ (x : ℕ). slice_set before x writes.kept) at
 
   -- ---- the search for a free one
@@ -176,12 +176,12 @@ module _ (cells : Rows) where
           p.taken d.0 (omega (arith, d.1, end)) (ap (λ (x : ℕ). (words_at cells before x).1) d.2 ∙ none)
 
   module _ (home passed cell o : ℕ) (held : ℕ × ℕ) (before mid after : List Val) (cell_is : cell ≡ behind n home passed)
-      (at : o ≡ first + 3 * n + 1 + cell) (p : PassingForks home passed before mid)
+      (at : o ≡ first + 2 * n + 1 + cell) (p : PassingForks home passed before mid)
       (reads : Reads words_of o held mid after) where
     fork_read : held ≡ words_at cells before cell
     fork_read =
         reads.is ∙ ap (λ (x : ℕ). words_of (value_at mid x)) at
-        ∙ ap (λ (xs : List Val). words_of (value_at xs (first + 3 * n + 1 + cell))) p.same
+        ∙ ap (λ (xs : List Val). words_of (value_at xs (first + 2 * n + 1 + cell))) p.same
 
     pub fork_found : held.1 ≡ 0 → FreeFork cells cell before after
     fork_found none = record {
@@ -419,7 +419,7 @@ module _ (cells : Rows) where
   key_here place before (fork p j q l r) is held = absurd (omega (arith, is))
 
   -- no other key stands there
-  pub beside_none : (key at cell place o : ℕ) (held : Option ℕ) (before after : List Val) → o ≡ first + 3 * place + 1 →
+  pub beside_none : (key at cell place o : ℕ) (held : Option ℕ) (before after : List Val) → o ≡ first + 2 * place →
       ((k : ℕ) → held ≡ Some k → k ≡ key) → Reads key_of o held before after →
       AddsBeside cells key at cell place (2 * place + 1) before after
   beside_none key at cell place o held before after o_is only reads under = record {
@@ -437,7 +437,7 @@ module _ (cells : Rows) where
           absent place d.0 (subst (λ (x : Trie). Has place d.0 x) (sym d.1) (refl, refl)) (only d.0 (read ∙ d.2))
 
   module _ (key at cell place o other level ours theirs tip_link_is here_link : ℕ) (made : Fork) (before mid after : List Val)
-      (o_is : o ≡ first + 3 * place + 1) (inside : at < n) (within : cell < n) (high : level < 64)
+      (o_is : o ≡ first + 2 * place) (inside : at < n) (within : cell < n) (high : level < 64)
       (differ : key / 2 ^ level ≡ other / 2 ^ level → ⊥) (same_above : key / 2 ^ (level + 1) ≡ other / 2 ^ (level + 1))
       (ours_is : ours ≡ key / 2 ^ level) (theirs_is : theirs ≡ other / 2 ^ level) (level_is : made.level ≡ level)
       (prefix_is : made.prefix ≡ ours / 2)

@@ -4,6 +4,7 @@ use Rattle.dstm_model.specs.declared.value.Val.{Val}
 use Rattle.dstm_model.specs.Map.{value_at}
 use Rattle.dstm_structures.specs.Circles.{behind}
 use Rattle.dstm_structures.specs.Places.{AreTaken, find, is_free, is_key}
+use Rattle.dstm_structures.specs.declared.cells.Slot.{Slot}
 use Rattle.dstm_structures.specs.declared.map.HashMap.{HashMap}
 use Rattle.dstm_structures.specs.declared.map.Placed.{Placed}
 use Rattle.dstm_structures.specs.declared.map.Placed.TheVariants.{New, Instead, Full}
@@ -14,31 +15,35 @@ home_in n key = (key * 11400714819323198485 % 2 ^ 64 / 4294967296) % n
 
 -- the key that a value tells, if it tells one
 abbrev pub key_of : Val → Option ℕ
-key_of val = if val.high == 1 then Some val.low else None
+key_of val = if val.high % 4294967296 == 1 then Some val.low else None
 
 -- at how many places keys are looked for, by what a value tells
 abbrev pub reach_of : Val → ℕ
-reach_of val = val.low
+reach_of val = val.high / 4294967296
 
--- The cells of a map of n places, three of each place side by side: one that tells at how many places from it on keys
--- are looked for whose home it is, one that tells its key, and one that holds the value.
+-- both
+abbrev pub slot_of : Val → Slot
+slot_of val = record { reach = reach_of val; key = key_of val }
+
+-- The cells of a map of n places, two of each place side by side: one that tells its key, and at how many places from it on
+-- keys are looked for whose home it is, and one that holds the value.
 abbrev pub keys_in : (first : ℕ) → List Val → ℕ → Option ℕ
-keys_in first map at = key_of (value_at map (first + 3 * at + 1))
+keys_in first map at = key_of (value_at map (first + 2 * at))
 
 abbrev pub values_in : {V : Type 0} → (Val → V) → (first : ℕ) → List Val → ℕ → V
-values_in found first map at = found (value_at map (first + 3 * at + 2))
+values_in found first map at = found (value_at map (first + 2 * at + 1))
 
 module _ (first n : ℕ) where
   abbrev pub reach_in : List Val → ℕ → ℕ
   reach_in map home =
-      if nat_lt (reach_of (value_at map (first + 3 * home))) n then reach_of (value_at map (first + 3 * home)) else n
+      if nat_lt (reach_of (value_at map (first + 2 * home))) n then reach_of (value_at map (first + 2 * home)) else n
 
   abbrev pub place_in : List Val → ℕ → Option ℕ
   place_in map key = find n (keys_in first map) key (home_in n key) 0 (reach_in map (home_in n key))
 
   -- every object but those of the map keeps its value
   abbrev pub KeepsAround : List Val → List Val → Type 0
-  KeepsAround before after = (o : ℕ) → (o < first) ⊎ (first + 3 * n ≤ o) → value_at after o ≡ value_at before o
+  KeepsAround before after = (o : ℕ) → (o < first) ⊎ (first + 2 * n ≤ o) → value_at after o ≡ value_at before o
 
 abbrev pub at_place : {V : Type 0} → (ℕ → V) → Option ℕ → Option V
 at_place values None = None
@@ -51,7 +56,7 @@ module _ {V : Type 0} (found : Val → V) (first n : ℕ) where
 
 -- the objects of a map are among so many
 abbrev pub end_of : {V : Type 0} → HashMap V → ℕ
-end_of map = map.cells.first + 3 * map.cells.capacity
+end_of map = map.cells.first + 2 * map.cells.capacity
 
 -- ---- what a search does
 
@@ -96,19 +101,28 @@ module _ {V : Type 0} (map : HashMap V) where
   -- keys of this home are looked for at so many places at least
   pub record Extends (home far : ℕ) (before after : List Val) : Type 0 where
     pub is : reach_at after home ≡ (if nat_lt (reach_at before home) far then far else reach_at before home)
-    pub others : (o : ℕ) → o ≢ map.cells.first + 3 * home → value_at after o ≡ value_at before o
+    pub key : key_at after home ≡ key_at before home
+    pub others : (o : ℕ) → o ≢ map.cells.first + 2 * home → value_at after o ≡ value_at before o
+
+  -- this place has this key now, or none
+  pub record SetsKey (at : ℕ) (key : Option ℕ) (before after : List Val) : Type 0 where
+    pub is : key_at after at ≡ key
+    pub reaches : (home : ℕ) → reach_at after home ≡ reach_at before home
+    pub others : (o : ℕ) → o ≢ map.cells.first + 2 * at → value_at after o ≡ value_at before o
 
   -- this place does not hold the key any more, and no other key was set
   pub record Empties (at key : ℕ) (before after : List Val) : Type 0 where
     pub gone : is_key key (key_at after at) ≡ false
     pub keys : (k p : ℕ) → k ≢ key → is_key k (key_at after p) ≡ is_key k (key_at before p)
-    pub others : (o : ℕ) → o ≢ map.cells.first + 3 * at + 1 → value_at after o ≡ value_at before o
+    pub reaches : (home : ℕ) → reach_at after home ≡ reach_at before home
+    pub others : (o : ℕ) → o ≢ map.cells.first + 2 * at → value_at after o ≡ value_at before o
 
   -- of the places at which a key is looked for, the first ones do not hold it any more, and no other key was set
   pub record Clears (key passed : ℕ) (before after : List Val) : Type 0 where
     pub gone : (j : ℕ) → j < passed → is_key key (key_at after (behind map.cells.capacity (homes key) j)) ≡ false
     pub keys : (k p : ℕ) → k ≢ key → is_key k (key_at after p) ≡ is_key k (key_at before p)
-    pub others : (o : ℕ) → ((at : ℕ) → at < map.cells.capacity → o ≢ map.cells.first + 3 * at + 1) →
+    pub reaches : (home : ℕ) → reach_at after home ≡ reach_at before home
+    pub others : (o : ℕ) → ((at : ℕ) → at < map.cells.capacity → o ≢ map.cells.first + 2 * at) →
         value_at after o ≡ value_at before o
 
   abbrev pub ClearsAll : (key : ℕ) → List Val → List Val → Type 0
@@ -175,7 +189,8 @@ module _ {V : Type 0} (found : Val → V) (map : HashMap V) where
   pub record Stores (at key : ℕ) (value : V) (before after : List Val) : Type 0 where
     pub key_is : key_at map after at ≡ Some key
     pub value_is : values_in found map.cells.first after at ≡ value
-    pub others : (o : ℕ) → o ≢ map.cells.first + 3 * at + 1 → o ≢ map.cells.first + 3 * at + 2 →
+    pub reaches : (home : ℕ) → reach_at map after home ≡ reach_at map before home
+    pub others : (o : ℕ) → o ≢ map.cells.first + 2 * at → o ≢ map.cells.first + 2 * at + 1 →
         value_at after o ≡ value_at before o
 
   -- WHAT TAKING A KEY OUT DOES, by the answer
@@ -188,6 +203,6 @@ module _ {V : Type 0} (found : Val → V) (map : HashMap V) where
     pub added : List Val
     pub behind : after ≡ before ++ added
     pub first : map.cells.first ≡ length before
-    pub count : length added ≡ 3 * map.cells.capacity
+    pub count : length added ≡ 2 * map.cells.capacity
     pub empty : (key : ℕ) → item_of after key ≡ None
     pub free : (at : ℕ) → at < map.cells.capacity → key_at map after at ≡ None

@@ -139,6 +139,6 @@ module _ {V : Type 0} (found : Val → V) (map : OrderedMap V) where
     pub added : List Val
     pub behind : after ≡ before ++ added
     pub first : map.map.cells.first ≡ length before
-    pub count : length added ≡ 4 * map.map.cells.capacity + 1
+    pub count : length added ≡ 3 * map.map.cells.capacity + 1
     pub empty : (key : ℕ) → item_of found map.map after key ≡ None
     pub order : IsInOrder map after

@@ -81,10 +81,10 @@ Holds n keys forks (fork p j q l r) =
 -- one for each fork.
 module _ (first n : ℕ) where
   abbrev pub root_in : List Val → ℕ
-  root_in values = low_of (value_at values (first + 3 * n))
+  root_in values = low_of (value_at values (first + 2 * n))
 
   abbrev pub forks_in : List Val → ℕ → ℕ × ℕ
-  forks_in values at = words_of (value_at values (first + 3 * n + 1 + at))
+  forks_in values at = words_of (value_at values (first + 2 * n + 1 + at))
 
   abbrev pub HoldsIn : List Val → Trie → Type 0
   HoldsIn values t = Holds n (keys_in first values) (forks_in values) t
@@ -109,11 +109,11 @@ module _ (first n : ℕ) where
   -- every object but the cells of the forks keeps its value
   abbrev pub KeepsButForks : List Val → List Val → Type 0
   KeepsButForks before after =
-      (o : ℕ) → (o ≤ first + 3 * n) ⊎ (first + 4 * n + 1 ≤ o) → value_at after o ≡ value_at before o
+      (o : ℕ) → (o ≤ first + 2 * n) ⊎ (first + 3 * n + 1 ≤ o) → value_at after o ≡ value_at before o
 
 -- the objects of an ordered map's cells are among so many
 abbrev pub order_end : Rows → ℕ
-order_end cells = cells.first + 4 * cells.capacity + 1
+order_end cells = cells.first + 3 * cells.capacity + 1
 
 -- ---- what is read of a trie
 

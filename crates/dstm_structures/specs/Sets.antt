@@ -130,6 +130,6 @@ module _ (set : OrderedSet) where
     pub added : List Val
     pub behind : after ≡ before ++ added
     pub first : set.map.map.cells.first ≡ length before
-    pub count : length added ≡ 4 * set.map.map.cells.capacity + 1
+    pub count : length added ≡ 3 * set.map.map.cells.capacity + 1
     pub empty : (key : ℕ) → is_in after key ≡ false
     pub order : IsOrdered after

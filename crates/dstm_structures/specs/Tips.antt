@@ -30,12 +30,12 @@ module _ (cells : Rows) where
   -- every object but the cell of this fork keeps its value
   abbrev pub KeepsButFork : (cell : ℕ) → List Val → List Val → Type 0
   KeepsButFork cell before after =
-      (o : ℕ) → o ≢ cells.first + 3 * cells.capacity + 1 + cell → value_at after o ≡ value_at before o
+      (o : ℕ) → o ≢ cells.first + 2 * cells.capacity + 1 + cell → value_at after o ≡ value_at before o
 
   -- every object but the cells of the order keeps its value
   abbrev pub KeepsButOrder : List Val → List Val → Type 0
   KeepsButOrder before after =
-      (o : ℕ) → (o < cells.first + 3 * cells.capacity) ⊎ (cells.first + 4 * cells.capacity + 1 ≤ o) →
+      (o : ℕ) → (o < cells.first + 2 * cells.capacity) ⊎ (cells.first + 3 * cells.capacity + 1 ≤ o) →
       value_at after o ≡ value_at before o
 
   -- ---- one fork's cell
@@ -80,7 +80,7 @@ module _ (cells : Rows) where
   -- the link to the whole trie is this now, where it was that one
   pub record SetsRoot (was now : ℕ) (before after : List Val) : Type 0 where
     pub is : root_in cells.first cells.capacity before ≡ was → root_in cells.first cells.capacity after ≡ now
-    pub others : (o : ℕ) → o ≢ cells.first + 3 * cells.capacity → value_at after o ≡ value_at before o
+    pub others : (o : ℕ) → o ≢ cells.first + 2 * cells.capacity → value_at after o ≡ value_at before o
 
   -- ---- a tip more
 

@@ -14,24 +14,61 @@ pub struct Ring {
     ghost few: { first + 1 + capacity ≤ 524288 },
 }
 
-// The cells of a map: the number of the first one, and how many places there are. Each place has three cells side by
-// side: one that tells at how many places from it on keys are looked for whose home it is, one that tells its key, and one
-// that holds the value.
+// The cells of a map: the number of the first one, and how many places there are. Each place has two cells side by side: one
+// that tells its key, and at how many places from it on keys are looked for whose home it is, and one that holds the value.
 #[derive(Clone, Copy)]
 pub struct Rows {
     pub(crate) first: u32,
     pub(crate) capacity: u32,
     ghost some: { 0 < capacity },
-    ghost few: { first + 3 * capacity ≤ 524288 },
+    ghost few: { first + 2 * capacity ≤ 524288 },
 }
 
 impl Rows {
     // The cell that tells the key of a place.
-    pub(crate) fn key_at(self, at: u32) -> Cell<Option<u64>>
+    pub(crate) fn slot_at(self, at: u32) -> Cell<Slot>
         requires { at < self.capacity }
-        ensures { result.object ≡ self.first + 3 * at + 1 }
+        ensures { result.object ≡ self.first + 2 * at }
     {
-        cell(self.first + 3 * at + 1)
+        cell(self.first + 2 * at)
+    }
+}
+
+// What the first cell of a place tells: at how many places from it on keys are looked for whose home it is, and its key.
+#[derive(Clone, Copy)]
+pub struct Slot {
+    pub(crate) reach: u32,
+    pub(crate) key: Option<u64>,
+}
+
+impl Word for Slot {
+    ghost use Rattle.std.specs.Prelude.{◌/◌, ◌%◌, ◌==◌, if◌then◌else◌, Some, None};
+
+    ghost found = { λ val. record {
+      reach = val.high / 4294967296;
+      key = if val.high % 4294967296 == 1 then Some val.low else None;
+    } };
+
+    fn to_val(self) -> Val {
+        let high = 4_294_967_296 * u64::from(self.reach);
+        match self.key {
+            Some(low) => Val {
+                low,
+                high: high + 1,
+            },
+            None => Val { low: 0, high },
+        }
+    }
+
+    fn of_val(val: Val) -> Slot {
+        Slot {
+            reach: (val.high / 4_294_967_296) as u32,
+            key: if val.high % 4_294_967_296 == 1 {
+                Some(val.low)
+            } else {
+                None
+            },
+        }
     }
 }
 

@@ -3,10 +3,10 @@ ghost use Rattle.std.specs.Prelude.{◌≡◌, ◌+◌, ◌*◌, ◌<◌, ◌≤
 ghost use Rattle.dstm_cells.specs.Alternatives.{Notes, noting};
 ghost use Rattle.dstm_cells.specs.UnderWay.{Keeps};
 ghost use Rattle.dstm_structures.specs.Effects.{Does, Stops};
-ghost use Rattle.dstm_structures.specs.Maps.{Adds, ClearsAll, Empties, Extends, Frees, Inserts, Puts, Reaches, Removes, Seeks, Stores, Tells, TellsIf, end_of, home_in, outcome};
+ghost use Rattle.dstm_structures.specs.Maps.{Adds, ClearsAll, Empties, Extends, Frees, Inserts, Puts, Reaches, Removes, Seeks, SetsKey, Stores, Tells, TellsIf, end_of, home_in, outcome};
 ghost use Rattle.dstm_structures.specs.Places.{is_free, is_key};
 
-use crate::cells::{Rows, behind, cell, number};
+use crate::cells::{Rows, Slot, behind, cell, number};
 use dstm_cells::{Cell, Failed, MOST_CELLS, Memory, Stop, Tx, Word};
 use dstm_model::Law;
 use std::marker::PhantomData;
@@ -30,7 +30,7 @@ pub enum Placed<V> {
 }
 
 impl<V: Word> HashMap<V> {
-    /// An empty map in new cells of a memory: three for each key that it has room for, which are from 1 on.
+    /// An empty map in new cells of a memory: two for each key that it has room for, which are from 1 on.
     pub fn new<L: Law + Copy>(memory: &mut Memory<L>, capacity: u32) -> Result<HashMap<V>, Failed>
         ensures adds { IfOk result (λ map. Adds V.found map memory.old.values.items memory.new.values.items) }
         ensures capacity { IfOk result (λ map. map.cells.capacity ≡ capacity) }
@@ -38,10 +38,10 @@ impl<V: Word> HashMap<V> {
         ensures engine { memory.new.engine ≡ memory.old.engine }
         ensures law { memory.new.law ≡ memory.old.law }
     {
-        if capacity == 0 || capacity > MOST_CELLS / 3 {
+        if capacity == 0 || capacity > MOST_CELLS / 2 {
             return Err(Failed::Full);
         }
-        let cells = memory.cells((0u64, 0u64), 3 * capacity)?;
+        let cells = memory.cells((0u64, 0u64), 2 * capacity)?;
         let cells = Rows {
             first: number(cells[0]),
             capacity,
@@ -176,8 +176,9 @@ impl<V: Word> HashMap<V> {
     {
         let reach = self.reach(tx, home)?;
         for passed in 0..self.cells.capacity {
-            let held = tx.get(self.cells.key_at(behind(self.cells.capacity, home, passed)))?;
-            if self.is_free(home, passed >= reach, held) {
+            let at = behind(self.cells.capacity, home, passed);
+            let slot = tx.get(self.cells.slot_at(at))?;
+            if self.is_free(home, passed >= reach, slot.key) {
                 return Ok(Some(passed));
             }
         }
@@ -193,8 +194,22 @@ impl<V: Word> HashMap<V> {
         ensures stores { OnOk result (Does L.holds (end_of self) (Stores V.found self at key value)
             tx.old.attempts.caller tx.new.attempts.caller) }
     {
-        tx.set(self.cells.key_at(at), Some(key))?;
         tx.set(self.value_at(at), value)?;
+        self.set_key(tx, at, Some(key))?;
+        Ok(())
+    }
+
+    // Sets the key of a place.
+    fn set_key<L: Law>(self, tx: &mut Tx<'_, L>, at: u32, key: Option<u64>) -> Result<(), Stop>
+        requires { at < self.cells.capacity }
+        ensures keeps { Keeps tx.old.attempts.caller tx.new.attempts.caller }
+        ensures notes { Notes L.holds (noting tx.old) (noting tx.new) }
+        ensures stops { IfErr result (λ stop. Stops (end_of self) tx.old.notes tx.old.attempts.caller stop.why) }
+        ensures sets { OnOk result (Does L.holds (end_of self) (SetsKey self at key)
+            tx.old.attempts.caller tx.new.attempts.caller) }
+    {
+        let slot = tx.get(self.cells.slot_at(at))?;
+        tx.set(self.cells.slot_at(at), Slot { key, ..slot })?;
         Ok(())
     }
 
@@ -208,11 +223,11 @@ impl<V: Word> HashMap<V> {
         ensures extends { OnOk result (Does L.holds (end_of self) (Extends self home far)
             tx.old.attempts.caller tx.new.attempts.caller) }
     {
-        let reach = self.reach(tx, home)?;
-        if reach >= far {
+        let slot = tx.get(self.cells.slot_at(home))?;
+        if slot.reach >= far {
             return Ok(());
         }
-        tx.set(self.reach_at(home), u64::from(far))?;
+        tx.set(self.cells.slot_at(home), Slot { reach: far, ..slot })?;
         Ok(())
     }
 
@@ -241,11 +256,11 @@ impl<V: Word> HashMap<V> {
         ensures empties { OnOk result (Does L.holds (end_of self) (Empties self at key)
             tx.old.attempts.caller tx.new.attempts.caller) }
     {
-        let held = tx.get(self.cells.key_at(at))?;
-        if !is_key(key, held) {
+        let slot = tx.get(self.cells.slot_at(at))?;
+        if !is_key(key, slot.key) {
             return Ok(());
         }
-        tx.set(self.cells.key_at(at), None)?;
+        self.set_key(tx, at, None)?;
         Ok(())
     }
 
@@ -282,20 +297,12 @@ impl<V: Word> HashMap<V> {
         }
     }
 
-    // The cell that tells at how many places keys of this home are looked for.
-    pub(crate) fn reach_at(self, home: u32) -> Cell<u64>
-        requires { home < self.cells.capacity }
-        ensures { result.object ≡ self.cells.first + 3 * home }
-    {
-        cell(self.cells.first + 3 * home)
-    }
-
     // The cell that holds the value of a place.
     pub(crate) fn value_at(self, at: u32) -> Cell<V>
         requires { at < self.cells.capacity }
-        ensures { result.object ≡ self.cells.first + 3 * at + 2 }
+        ensures { result.object ≡ self.cells.first + 2 * at + 1 }
     {
-        cell(self.cells.first + 3 * at + 2)
+        cell(self.cells.first + 2 * at + 1)
     }
 }
 

@@ -167,8 +167,8 @@ impl Order {
         match self.link(link) {
             Link::Nothing => Ok(None),
             Link::Tip(at) => {
-                let held = tx.get(self.cells.key_at(at))?;
-                if is_above(key, held) {
+                let slot = tx.get(self.cells.slot_at(at))?;
+                if is_above(key, slot.key) {
                     Ok(Some(at))
                 } else {
                     Ok(None)
@@ -222,17 +222,17 @@ impl Order {
 
     // The cell that holds the link to the whole trie.
     pub(crate) fn root_at(self) -> Cell<u64>
-        ensures { result.object ≡ self.cells.first + 3 * self.cells.capacity }
+        ensures { result.object ≡ self.cells.first + 2 * self.cells.capacity }
     {
-        cell(self.cells.first + 3 * self.cells.capacity)
+        cell(self.cells.first + 2 * self.cells.capacity)
     }
 
     // The cell of a fork.
     pub(crate) fn fork_at(self, at: u32) -> Cell<(u64, u64)>
         requires { at < self.cells.capacity }
-        ensures { result.object ≡ self.cells.first + 3 * self.cells.capacity + 1 + at }
+        ensures { result.object ≡ self.cells.first + 2 * self.cells.capacity + 1 + at }
     {
-        cell(self.cells.first + 3 * self.cells.capacity + 1 + at)
+        cell(self.cells.first + 2 * self.cells.capacity + 1 + at)
     }
 }
 

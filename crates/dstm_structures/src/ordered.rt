@@ -23,7 +23,7 @@ pub struct OrderedMap<V> {
 }
 
 impl<V: Word> OrderedMap<V> {
-    /// An empty map in new cells of a memory: four for each key that it has room for, which are from 1 on, and one more.
+    /// An empty map in new cells of a memory: three for each key that it has room for, which are from 1 on, and one more.
     pub fn new<L: Law + Copy>(
         memory: &mut Memory<L>,
         capacity: u32,
@@ -34,10 +34,10 @@ impl<V: Word> OrderedMap<V> {
         ensures engine { memory.new.engine ≡ memory.old.engine }
         ensures law { memory.new.law ≡ memory.old.law }
     {
-        if capacity == 0 || capacity > (MOST_CELLS - 1) / 4 {
+        if capacity == 0 || capacity > (MOST_CELLS - 1) / 3 {
             return Err(Failed::Full);
         }
-        let cells = memory.cells((0u64, 0u64), 4 * capacity + 1)?;
+        let cells = memory.cells((0u64, 0u64), 3 * capacity + 1)?;
         let cells = Rows {
             first: number(cells[0]),
             capacity,
@@ -237,8 +237,8 @@ impl<V: Word> OrderedMap<V> {
         let Some(at) = place else {
             return Ok(None);
         };
-        let held = tx.get(self.map.cells.key_at(at))?;
-        let Some(key) = held else {
+        let slot = tx.get(self.map.cells.slot_at(at))?;
+        let Some(key) = slot.key else {
             return Ok(None);
         };
         let value = tx.get(self.map.value_at(at))?;

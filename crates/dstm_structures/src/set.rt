@@ -47,7 +47,7 @@ impl Word for Present {
 }
 
 impl OrderedSet {
-    /// An empty set in new cells of a memory: four for each key that it has room for, which are from 1 on, and one more.
+    /// An empty set in new cells of a memory: three for each key that it has room for, which are from 1 on, and one more.
     pub fn new<L: Law + Copy>(memory: &mut Memory<L>, capacity: u32) -> Result<OrderedSet, Failed>
         ensures adds { IfOk result (λ set. Adds set memory.old.values.items memory.new.values.items) }
         ensures capacity { IfOk result (λ set. set.map.map.cells.capacity ≡ capacity) }

@@ -136,8 +136,8 @@ impl Order {
             (AddsBeside self.cells added.key added.at added.cell place now)
             tx.old.attempts.caller tx.new.attempts.caller) }
     {
-        let held = tx.get(self.cells.key_at(place))?;
-        let Some(other) = held else {
+        let slot = tx.get(self.cells.slot_at(place))?;
+        let Some(other) = slot.key else {
             return Ok(to_tip(place));
         };
         if other == added.key {

@@ -39,8 +39,8 @@ impl<V: Word> HashMap<V> {
         let reach = self.reach_by(by, home)?;
         for passed in 0..reach {
             let at = behind(self.cells.capacity, home, passed);
-            let held = by.look(self.cells.key_at(at))?;
-            if is_key(key, held) {
+            let slot = by.look(self.cells.slot_at(at))?;
+            if is_key(key, slot.key) {
                 return Ok(Some(at));
             }
         }
@@ -56,9 +56,9 @@ impl<V: Word> HashMap<V> {
         ensures reaches { IfOk result (λ reach. Shows B.Stands (λ values. Reaches self home reach values values) by.new) }
         ensures may { OnOk result (StandsSomewhere B.Stands by.new) }
     {
-        let told = by.look(self.reach_at(home))?;
-        if told < u64::from(self.cells.capacity) {
-            Ok(told as u32)
+        let slot = by.look(self.cells.slot_at(home))?;
+        if slot.reach < self.cells.capacity {
+            Ok(slot.reach)
         } else {
             Ok(self.cells.capacity)
         }
@@ -107,8 +107,8 @@ impl<V: Word> HashMap<V> {
         ensures fails { IfErr result (B.Fails false (end_of self) by.old) }
         ensures stands { IfOk result (λ key. Shows B.Stands (λ values. Stands self at key values values) by.new) }
     {
-        let held = by.look(self.cells.key_at(at))?;
-        let Some(key) = held else {
+        let slot = by.look(self.cells.slot_at(at))?;
+        let Some(key) = slot.key else {
             return Ok(None);
         };
         let place = self.find_by(by, key)?;

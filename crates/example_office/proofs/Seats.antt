@@ -16,7 +16,7 @@ use Rattle.example_office.specs.declared.hall.NoneTwice.{NoneTwice}
 abbrev pub holds : NoneTwice → List Val → Type 0
 holds law values = EachOnce values
 
-pub room : (law : NoneTwice) (values : List Val) → EachOnce values → 769 ≤ length values
+pub room : (law : NoneTwice) (values : List Val) → EachOnce values → 513 ≤ length values
 room law values kept = let cells = kept.cells in omega arith
 
 in-both : (one other : HashMap ℕ) → AreBoth one other → (values : List Val) (seat : ℕ) →
@@ -26,7 +26,7 @@ in-both one other (inr are) values seat = rw (are.0, are.1, are.2, are.3) (omega
 
 -- the maps stand apart, behind the first cell
 pub stand : (one other : HashMap ℕ) → AreBoth one other →
-    AreApart one other × (0 < one.cells.first) × (0 < other.cells.first) × (end_of one ≤ 769) × (end_of other ≤ 769)
+    AreApart one other × (0 < one.cells.first) × (0 < other.cells.first) × (end_of one ≤ 513) × (end_of other ≤ 513)
 stand one other (inl are) = (inl (omega arith), omega arith, omega arith, omega arith, omega arith)
 stand one other (inr are) = (inr (omega arith), omega arith, omega arith, omega arith, omega arith)
 
@@ -81,8 +81,8 @@ pub initially : {free sold : HashMap ℕ} {cell : ℕ} {none one two three : Lis
 initially {free} {sold} {one = one} {two} {three} many as_many empty first more rest =
     let alone : one ≡ first.kept ∷ [] = first.last ∙ ap (λ (xs : List Val). xs ++ (first.kept ∷ [])) empty in
     let long : length one ≡ 1 = ap (length {A = Val}) alone in
-    let longer : length two ≡ 385 = omega (arith, added-length more) in
-    let longest : length three ≡ 769 = omega (arith, added-length rest) in
+    let longer : length two ≡ 257 = omega (arith, added-length more) in
+    let longest : length three ≡ 513 = omega (arith, added-length rest) in
     let are : AreMaps free sold = (more.first ∙ long, many, rest.first ∙ longer, as_many) in
     let zero = ap number (added-stays rest 0 (omega arith) ∙ added-stays more 0 (omega arith)
     ∙ ap (λ (xs : List Val). value_at xs 0) alone) ∙ first.is in

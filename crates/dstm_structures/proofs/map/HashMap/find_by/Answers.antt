@@ -1,6 +1,7 @@
-use Rattle.std.proofs.Common.{◌∙◌, arith, refl, sym, rules, false, ◌≡◌}
+use Rattle.std.proofs.Common.{◌∙◌, ap, arith, refl, sym, rules, false, ◌≡◌}
 use Rattle.std.specs.Prelude.{Err}
 use Rattle.dstm_structures.specs.Maps.{end_of}
+use Rattle.dstm_structures.specs.declared.cells.Slot.{Slot}
 use Rattle.dstm_structures.proofs.Mapping.{seek-found, seek-next, seek-none, seek-start}
 use Rattle.dstm_structures.proofs.map.HashMap.find_by.Goals as goal
 
@@ -12,41 +13,41 @@ loop-passed-init g c = (
   c.in_ok-reach.ensures.may,
 )
 
-pub returns-in_err-held-clause-stays : goal.returns-in_err-held-clause-stays
-returns-in_err-held-clause-stays g c =
-    g.met.B.Looks.again c.args.by.now c.loop-passed.by c.look.new.self c.loop-passed.invariant.0 c.in_err-held.ensures.stays
+pub returns-in_err-slot-clause-stays : goal.returns-in_err-slot-clause-stays
+returns-in_err-slot-clause-stays g c =
+    g.met.B.Looks.again c.args.by.now c.loop-passed.by c.look.new.self c.loop-passed.invariant.0 c.in_err-slot.ensures.stays
 
-pub returns-in_err-held-clause-fails : goal.returns-in_err-held-clause-fails
-returns-in_err-held-clause-fails g c =
-    let answer = c.from_residual-in_err-held.ensures in
-    let is : c.from_residual-in_err-held.result ≡ Err c.in_err-held.field-0.0 = search rules in
+pub returns-in_err-slot-clause-fails : goal.returns-in_err-slot-clause-fails
+returns-in_err-slot-clause-fails g c =
+    let answer = c.from_residual-in_err-slot.ensures in
+    let is : c.from_residual-in_err-slot.result ≡ Err c.in_err-slot.field-0.0 = search rules in
     rw is
     (g.met.B.Looks.fails_later false (end_of c.args.self) c.args.by.now c.loop-passed.by _ c.loop-passed.invariant.0
-    (c.in_err-held.ensures.fails (end_of c.args.self) (omega (arith, c.key_at.ensures, c.behind-at.ensures.within))))
+    (c.in_err-slot.ensures.fails (end_of c.args.self) (omega (arith, c.slot_at.ensures, c.behind-at.ensures.within))))
 
 pub returns-then-is_key-clause-stays : goal.returns-then-is_key-clause-stays
 returns-then-is_key-clause-stays g c =
-    g.met.B.Looks.again c.args.by.now c.loop-passed.by c.look.new.self c.loop-passed.invariant.0 c.in_ok-held.ensures.stays
+    g.met.B.Looks.again c.args.by.now c.loop-passed.by c.look.new.self c.loop-passed.invariant.0 c.in_ok-slot.ensures.stays
 
 pub returns-then-is_key-clause-seeks : goal.returns-then-is_key-clause-seeks
 returns-then-is_key-clause-seeks g c map values at =
     seek-found c.args.self c.args.key c.in_ok-reach.reach c.loop-passed.passed c.home-home.result c.behind-at.result
-    c.key_at.result.object c.in_ok-held.held values values values (omega (arith, c.loop-passed-test.true))
-    c.home-home.ensures.home c.behind-at.ensures.behind c.key_at.ensures
+    c.slot_at.result.object c.in_ok-slot.slot.key values values values (omega (arith, c.loop-passed-test.true))
+    c.home-home.ensures.home c.behind-at.ensures.behind c.slot_at.ensures
     (c.loop-passed.invariant.1 map values
-    (g.met.B.Looks.narrows c.loop-passed.by c.look.new.self map values c.in_ok-held.ensures.stays at))
-    (record { is = c.in_ok-held.ensures.is map values at; same = refl }) (sym c.is_key.ensures ∙ c.if-is_key.true)
+    (g.met.B.Looks.narrows c.loop-passed.by c.look.new.self map values c.in_ok-slot.ensures.stays at))
+    (record { is = ap (λ (s : Slot). s.key) (c.in_ok-slot.ensures.is map values at); same = refl }) (sym c.is_key.ensures ∙ c.if-is_key.true)
 
 pub loop-passed-preserved : goal.loop-passed-preserved
 loop-passed-preserved g c = (
-  g.met.B.Looks.again c.args.by.now c.loop-passed.by c.look.new.self c.loop-passed.invariant.0 c.in_ok-held.ensures.stays,
+  g.met.B.Looks.again c.args.by.now c.loop-passed.by c.look.new.self c.loop-passed.invariant.0 c.in_ok-slot.ensures.stays,
   λ map values at. seek-next c.args.self c.args.key c.in_ok-reach.reach c.loop-passed.passed c.home-home.result
-      c.behind-at.result c.key_at.result.object c.in_ok-held.held values values values
-      (omega (arith, c.loop-passed-test.true)) c.home-home.ensures.home c.behind-at.ensures.behind c.key_at.ensures
+      c.behind-at.result c.slot_at.result.object c.in_ok-slot.slot.key values values values
+      (omega (arith, c.loop-passed-test.true)) c.home-home.ensures.home c.behind-at.ensures.behind c.slot_at.ensures
       (c.loop-passed.invariant.1 map values
-      (g.met.B.Looks.narrows c.loop-passed.by c.look.new.self map values c.in_ok-held.ensures.stays at))
-      (record { is = c.in_ok-held.ensures.is map values at; same = refl }) (sym c.is_key.ensures ∙ c.if-is_key.false),
-  c.in_ok-held.ensures.may,
+      (g.met.B.Looks.narrows c.loop-passed.by c.look.new.self map values c.in_ok-slot.ensures.stays at))
+      (record { is = ap (λ (s : Slot). s.key) (c.in_ok-slot.ensures.is map values at); same = refl }) (sym c.is_key.ensures ∙ c.if-is_key.false),
+  c.in_ok-slot.ensures.may,
 )
 
 pub returns-clause-stays : goal.returns-clause-stays

@@ -1,6 +1,6 @@
 use Rattle.std.proofs.Common.{◌∙◌, arith, sym}
 use Rattle.dstm_structures.proofs.Doing.{does-as, then-read}
-use Rattle.dstm_structures.proofs.Mapping.{pass-found, pass-next, pass-none, pass-start}
+use Rattle.dstm_structures.proofs.Mapping.{pass-found, pass-next, pass-none, pass-start, reads-key}
 use Rattle.dstm_structures.proofs.Noting.{notes_twice}
 use Rattle.dstm_structures.proofs.map.HashMap.free.Goals as goal
 
@@ -12,33 +12,33 @@ loop-passed-init g c = (
       (λ before after size. pass-start c.args.self c.args.home c.in_ok-reach.reach before after),
 )
 
-pub returns-in_err-held-clause-keeps : goal.returns-in_err-held-clause-keeps
-returns-in_err-held-clause-keeps g c = c.in_err-held.ensures.keeps ∙ c.loop-passed.invariant.0
+pub returns-in_err-slot-clause-keeps : goal.returns-in_err-slot-clause-keeps
+returns-in_err-slot-clause-keeps g c = c.in_err-slot.ensures.keeps ∙ c.loop-passed.invariant.0
 
-pub returns-in_err-held-clause-notes : goal.returns-in_err-held-clause-notes
-returns-in_err-held-clause-notes g c = notes_twice c.loop-passed.invariant.1 c.in_err-held.ensures.notes
+pub returns-in_err-slot-clause-notes : goal.returns-in_err-slot-clause-notes
+returns-in_err-slot-clause-notes g c = notes_twice c.loop-passed.invariant.1 c.in_err-slot.ensures.notes
 
 pub returns-then-is_free-clause-keeps : goal.returns-then-is_free-clause-keeps
-returns-then-is_free-clause-keeps g c = c.in_ok-held.ensures.keeps ∙ c.loop-passed.invariant.0
+returns-then-is_free-clause-keeps g c = c.in_ok-slot.ensures.keeps ∙ c.loop-passed.invariant.0
 
 pub returns-then-is_free-clause-notes : goal.returns-then-is_free-clause-notes
-returns-then-is_free-clause-notes g c = notes_twice c.loop-passed.invariant.1 c.in_ok-held.ensures.notes
+returns-then-is_free-clause-notes g c = notes_twice c.loop-passed.invariant.1 c.in_ok-slot.ensures.notes
 
 pub returns-then-is_free-clause-frees : goal.returns-then-is_free-clause-frees
 returns-then-is_free-clause-frees g c =
-    then-read c.loop-passed.invariant.0 c.loop-passed.invariant.2 c.in_ok-held.ensures.gets
+    then-read c.loop-passed.invariant.0 c.loop-passed.invariant.2 c.in_ok-slot.ensures.gets
     (λ before mid after size p reads. pass-found c.args.self c.args.home c.in_ok-reach.reach c.loop-passed.passed
-    c.behind.result c.key_at.result.object c.in_ok-held.held _ before mid after c.behind.ensures.behind c.key_at.ensures
-    (grind arith) p reads (sym c.is_free.ensures ∙ c.if-is_free.true))
+    c.behind-at.result c.slot_at.result.object c.in_ok-slot.slot.key _ before mid after c.behind-at.ensures.behind c.slot_at.ensures
+    (grind arith) p (reads-key reads) (sym c.is_free.ensures ∙ c.if-is_free.true))
 
 pub loop-passed-preserved : goal.loop-passed-preserved
 loop-passed-preserved g c = (
-  c.in_ok-held.ensures.keeps ∙ c.loop-passed.invariant.0,
-  notes_twice c.loop-passed.invariant.1 c.in_ok-held.ensures.notes,
-  then-read c.loop-passed.invariant.0 c.loop-passed.invariant.2 c.in_ok-held.ensures.gets
+  c.in_ok-slot.ensures.keeps ∙ c.loop-passed.invariant.0,
+  notes_twice c.loop-passed.invariant.1 c.in_ok-slot.ensures.notes,
+  then-read c.loop-passed.invariant.0 c.loop-passed.invariant.2 c.in_ok-slot.ensures.gets
       (λ before mid after size p reads. pass-next c.args.self c.args.home c.in_ok-reach.reach c.loop-passed.passed
-      c.behind.result c.key_at.result.object c.in_ok-held.held _ before mid after c.behind.ensures.behind c.key_at.ensures
-      (grind arith) p reads (sym c.is_free.ensures ∙ c.if-is_free.false)),
+      c.behind-at.result c.slot_at.result.object c.in_ok-slot.slot.key _ before mid after c.behind-at.ensures.behind c.slot_at.ensures
+      (grind arith) p (reads-key reads) (sym c.is_free.ensures ∙ c.if-is_free.false)),
 )
 
 pub returns-clause-keeps : goal.returns-clause-keeps

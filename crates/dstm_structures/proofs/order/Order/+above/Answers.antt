@@ -3,6 +3,7 @@ use Rattle.std.specs.Prelude.{Option}
 use Rattle.dstm_structures.specs.Effects.{Does}
 use Rattle.dstm_structures.specs.Orders.{Follows, IsNext, order_end}
 use Rattle.dstm_structures.proofs.Doing.{does-as, does-read, does-still, does-then, does-thrice}
+use Rattle.dstm_structures.proofs.Mapping.{reads-key}
 use Rattle.dstm_structures.proofs.Noting.{notes_thrice, notes_twice}
 use Rattle.dstm_structures.proofs.Ordering.{finds-nothing, finds-stopped, follows-all, follows-later, follows-left, follows-no-tip, follows-none, follows-right, follows-tip}
 use Rattle.dstm_structures.proofs.order.Order.+above.Goals as goal
@@ -14,16 +15,16 @@ returns-in-Nothing-clause-follows g t c =
 
 pub returns-then-is_above-clause-follows : goal.returns-then-is_above-clause-follows
 returns-then-is_above-clause-follows g t c =
-    does-as (does-read c.in_ok-held-in-Tip.ensures.gets)
+    does-as (does-read c.in_ok-slot-in-Tip.ensures.gets)
     (λ before after size reads. follows-tip c.args.self.cells c.args.key c.args.link c.args.under c.in-Tip.at
-    c.key_at.result.object c.in_ok-held-in-Tip.held before after (sym c.in-Tip.is ∙ c.link.ensures.is) c.key_at.ensures reads
+    c.slot_at.result.object c.in_ok-slot-in-Tip.slot.key before after (sym c.in-Tip.is ∙ c.link.ensures.is) c.slot_at.ensures (reads-key reads)
     (sym c.is_above.ensures ∙ c.if-is_above.true))
 
 pub returns-else-is_above-clause-follows : goal.returns-else-is_above-clause-follows
 returns-else-is_above-clause-follows g t c =
-    does-as (does-read c.in_ok-held-in-Tip.ensures.gets)
+    does-as (does-read c.in_ok-slot-in-Tip.ensures.gets)
     (λ before after size reads. follows-no-tip c.args.self.cells c.args.key c.args.link c.args.under c.in-Tip.at
-    c.key_at.result.object c.in_ok-held-in-Tip.held before after (sym c.in-Tip.is ∙ c.link.ensures.is) c.key_at.ensures reads
+    c.slot_at.result.object c.in_ok-slot-in-Tip.slot.key before after (sym c.in-Tip.is ∙ c.link.ensures.is) c.slot_at.ensures (reads-key reads)
     (sym c.is_above.ensures ∙ c.if-is_above.false))
 
 pub returns-then-fork-under-clause-follows : goal.returns-then-fork-under-clause-follows

@@ -5,6 +5,7 @@ use Rattle.dstm_structures.specs.Maps.{key_of}
 use Rattle.dstm_structures.specs.Orders.{order_end}
 use Rattle.dstm_structures.specs.Tips.{AddsBeside}
 use Rattle.dstm_structures.proofs.Doing.{Reads, does-as, does-read, does-then}
+use Rattle.dstm_structures.proofs.Mapping.{reads-key}
 use Rattle.dstm_structures.proofs.Noting.{notes_twice}
 use Rattle.dstm_structures.proofs.Places.{some_is}
 use Rattle.dstm_structures.proofs.Tipping.{beside_none, beside_set}
@@ -16,16 +17,16 @@ returns-then-other-added-clause-adds g c =
     subst (λ (now : ℕ). Does g.L.Law.holds (order_end c.args.self.cells)
     (AddsBeside c.args.self.cells added.key added.at added.cell c.args.place now) c.args.tx.now.attempts.caller
     c.get.new.self.attempts.caller) (sym c.to_tip-then-other-added.ensures) (does-as
-    (does-read c.in_ok-held.ensures.gets)
+    (does-read c.in_ok-slot.ensures.gets)
     (λ before after size reads. beside_none c.args.self.cells added.key added.at added.cell c.args.place
-    c.key_at.result.object c.in_ok-held.held before after c.key_at.ensures
-    (λ k e. some_is k c.in-Some.other (sym e ∙ c.in-Some.is) ∙ c.if-other-added.true) reads))
+    c.slot_at.result.object c.in_ok-slot.slot.key before after c.slot_at.ensures
+    (λ k e. some_is k c.in-Some.other (sym e ∙ c.in-Some.is) ∙ c.if-other-added.true) (reads-key reads)))
 
 pub returns-in_err-set_fork-clause-notes : goal.returns-in_err-set_fork-clause-notes
-returns-in_err-set_fork-clause-notes g c = notes_twice c.in_ok-held.ensures.notes c.in_err-set_fork.ensures.notes
+returns-in_err-set_fork-clause-notes g c = notes_twice c.in_ok-slot.ensures.notes c.in_err-set_fork.ensures.notes
 
 pub returns-clause-notes : goal.returns-clause-notes
-returns-clause-notes g c = notes_twice c.in_ok-held.ensures.notes c.in_ok-set_fork.ensures.notes
+returns-clause-notes g c = notes_twice c.in_ok-slot.ensures.notes c.in_ok-set_fork.ensures.notes
 
 pub returns-clause-adds : goal.returns-clause-adds
 returns-clause-adds g c =
@@ -33,12 +34,12 @@ returns-clause-adds g c =
     let level = c.parting-level.result in
     subst (λ (now : ℕ). Does g.L.Law.holds (order_end c.args.self.cells)
     (AddsBeside c.args.self.cells added.key added.at added.cell c.args.place now) c.args.tx.now.attempts.caller
-    c.set_fork.new.tx.attempts.caller) (sym c.to_fork.ensures) (does-then c.in_ok-held.ensures.keeps
-    (does-read c.in_ok-held.ensures.gets) c.in_ok-set_fork.ensures.sets
+    c.set_fork.new.tx.attempts.caller) (sym c.to_fork.ensures) (does-then c.in_ok-slot.ensures.keeps
+    (does-read c.in_ok-slot.ensures.gets) c.in_ok-set_fork.ensures.sets
     (λ before mid after size reads sets. beside_set c.args.self.cells added.key added.at added.cell c.args.place
-    c.key_at.result.object c.in-Some.other level (added.key / 2 ^ level) (c.in-Some.other / 2 ^ level) c.to_tip-2.result
-    c.to_tip-3.result c.parted-fork.result before mid after c.key_at.ensures c.requires.at c.requires.cell
+    c.slot_at.result.object c.in-Some.other level (added.key / 2 ^ level) (c.in-Some.other / 2 ^ level) c.to_tip-2.result
+    c.to_tip-3.result c.parted-fork.result before mid after c.slot_at.ensures c.requires.at c.requires.cell
     c.parting-level.ensures.within c.parting-level.ensures.differ c.parting-level.ensures.same refl refl
     c.parted-fork.ensures.level c.parted-fork.ensures.prefix c.parted-fork.ensures.left c.parted-fork.ensures.right
     c.to_tip-2.ensures c.to_tip-3.ensures
-    (subst (λ (o : Option ℕ). Reads key_of c.key_at.result.object o before mid) c.in-Some.is reads) sets))
+    (subst (λ (o : Option ℕ). Reads key_of c.slot_at.result.object o before mid) c.in-Some.is (reads-key reads)) sets))
