@@ -1,7 +1,8 @@
 // A hash map in the cells of a memory.
-ghost use Rattle.std.specs.Prelude.{◌≡◌, ◌+◌, ◌*◌, ◌<◌, ◌≤◌, false, IfErr, IfOk, IfSome, OnOk};
+ghost use Rattle.std.specs.Prelude.{◌≡◌, ◌+◌, ◌*◌, ◌<◌, ◌≤◌, List, false, IfErr, IfOk, IfSome, OnOk};
 ghost use Rattle.dstm_cells.specs.Alternatives.{Notes, noting};
-ghost use Rattle.dstm_cells.specs.UnderWay.{Keeps};
+ghost use Rattle.dstm_cells.specs.UnderWay.{Keeps, MayBegin};
+ghost use Rattle.dstm_model.specs.declared.value.Val.{Val};
 ghost use Rattle.dstm_structures.specs.Effects.{Does, Stops};
 ghost use Rattle.dstm_structures.specs.Maps.{Adds, ClearsAll, Empties, Extends, Frees, Inserts, Puts, Reaches, Removes, Seeks, SetsKey, Stores, Tells, TellsIf, end_of, home_in, outcome};
 ghost use Rattle.dstm_structures.specs.Places.{is_free, is_key};
@@ -66,6 +67,7 @@ impl<V: Word> HashMap<V> {
         ensures stops { IfErr result (λ stop. Stops (end_of self) false tx.old.attempts.caller stop.why) }
         ensures tells { IfOk result (λ answer. Does L.holds (end_of self) (Tells V.found self key answer)
             tx.old.attempts.caller tx.new.attempts.caller) }
+        ensures may { OnOk result ((map : List Val) × MayBegin L.holds tx.new.attempts.caller map) }
     {
         let answer = self.item_by(tx, key)?;
         Ok(answer)
@@ -78,6 +80,7 @@ impl<V: Word> HashMap<V> {
         ensures stops { IfErr result (λ stop. Stops (end_of self) false tx.old.attempts.caller stop.why) }
         ensures tells { IfOk result (λ answer. Does L.holds (end_of self) (TellsIf V.found self key answer)
             tx.old.attempts.caller tx.new.attempts.caller) }
+        ensures may { OnOk result ((map : List Val) × MayBegin L.holds tx.new.attempts.caller map) }
     {
         let found = self.find(tx, key)?;
         Ok(found.is_some())
@@ -90,6 +93,7 @@ impl<V: Word> HashMap<V> {
         ensures stops { IfErr result (λ stop. Stops (end_of self) tx.old.notes tx.old.attempts.caller stop.why) }
         ensures puts { IfOk result (λ placed. Does L.holds (end_of self) (Puts V.found self key value placed)
             tx.old.attempts.caller tx.new.attempts.caller) }
+        ensures may { OnOk result ((map : List Val) × MayBegin L.holds tx.new.attempts.caller map) }
     {
         let found = self.find(tx, key)?;
         let Some(at) = found else {
@@ -107,6 +111,7 @@ impl<V: Word> HashMap<V> {
         ensures stops { IfErr result (λ stop. Stops (end_of self) tx.old.notes tx.old.attempts.caller stop.why) }
         ensures removes { IfOk result (λ removed. Does L.holds (end_of self) (Removes V.found self key removed)
             tx.old.attempts.caller tx.new.attempts.caller) }
+        ensures may { OnOk result ((map : List Val) × MayBegin L.holds tx.new.attempts.caller map) }
     {
         let found = self.get(tx, key)?;
         let Some(value) = found else {
@@ -134,6 +139,7 @@ impl<V: Word> HashMap<V> {
         ensures within { IfOk result (λ place. IfSome place (λ at. at < self.cells.capacity)) }
         ensures seeks { IfOk result (λ place. Does L.holds (end_of self) (Seeks self key place)
             tx.old.attempts.caller tx.new.attempts.caller) }
+        ensures may { OnOk result ((map : List Val) × MayBegin L.holds tx.new.attempts.caller map) }
     {
         let place = self.find_by(tx, key)?;
         Ok(place)
@@ -152,6 +158,7 @@ impl<V: Word> HashMap<V> {
         ensures within { IfOk result (λ place. IfSome place (λ at. at < self.cells.capacity)) }
         ensures inserts { IfOk result (λ place. Does L.holds (end_of self) (Inserts V.found self key value place)
             tx.old.attempts.caller tx.new.attempts.caller) }
+        ensures may { OnOk result ((map : List Val) × MayBegin L.holds tx.new.attempts.caller map) }
     {
         let home = self.home(key);
         let free = self.free(tx, home)?;
@@ -173,6 +180,7 @@ impl<V: Word> HashMap<V> {
         ensures within { IfOk result (λ free. IfSome free (λ passed. passed < self.cells.capacity)) }
         ensures frees { IfOk result (λ free. Does L.holds (end_of self) (Frees self home free)
             tx.old.attempts.caller tx.new.attempts.caller) }
+        ensures may { OnOk result ((map : List Val) × MayBegin L.holds tx.new.attempts.caller map) }
     {
         let reach = self.reach(tx, home)?;
         for passed in 0..self.cells.capacity {
@@ -193,6 +201,7 @@ impl<V: Word> HashMap<V> {
         ensures stops { IfErr result (λ stop. Stops (end_of self) tx.old.notes tx.old.attempts.caller stop.why) }
         ensures stores { OnOk result (Does L.holds (end_of self) (Stores V.found self at key value)
             tx.old.attempts.caller tx.new.attempts.caller) }
+        ensures may { OnOk result ((map : List Val) × MayBegin L.holds tx.new.attempts.caller map) }
     {
         tx.set(self.value_at(at), value)?;
         self.set_key(tx, at, Some(key))?;
@@ -207,6 +216,7 @@ impl<V: Word> HashMap<V> {
         ensures stops { IfErr result (λ stop. Stops (end_of self) tx.old.notes tx.old.attempts.caller stop.why) }
         ensures sets { OnOk result (Does L.holds (end_of self) (SetsKey self at key)
             tx.old.attempts.caller tx.new.attempts.caller) }
+        ensures may { OnOk result ((map : List Val) × MayBegin L.holds tx.new.attempts.caller map) }
     {
         let slot = tx.get(self.cells.slot_at(at))?;
         tx.set(self.cells.slot_at(at), Slot { key, ..slot })?;
@@ -222,6 +232,7 @@ impl<V: Word> HashMap<V> {
         ensures stops { IfErr result (λ stop. Stops (end_of self) tx.old.notes tx.old.attempts.caller stop.why) }
         ensures extends { OnOk result (Does L.holds (end_of self) (Extends self home far)
             tx.old.attempts.caller tx.new.attempts.caller) }
+        ensures may { OnOk result ((map : List Val) × MayBegin L.holds tx.new.attempts.caller map) }
     {
         let slot = tx.get(self.cells.slot_at(home))?;
         if slot.reach >= far {
@@ -238,6 +249,7 @@ impl<V: Word> HashMap<V> {
         ensures stops { IfErr result (λ stop. Stops (end_of self) tx.old.notes tx.old.attempts.caller stop.why) }
         ensures clears { OnOk result (Does L.holds (end_of self) (ClearsAll self key)
             tx.old.attempts.caller tx.new.attempts.caller) }
+        ensures may { OnOk result ((map : List Val) × MayBegin L.holds tx.new.attempts.caller map) }
     {
         let home = self.home(key);
         let reach = self.reach(tx, home)?;
@@ -255,6 +267,7 @@ impl<V: Word> HashMap<V> {
         ensures stops { IfErr result (λ stop. Stops (end_of self) tx.old.notes tx.old.attempts.caller stop.why) }
         ensures empties { OnOk result (Does L.holds (end_of self) (Empties self at key)
             tx.old.attempts.caller tx.new.attempts.caller) }
+        ensures may { OnOk result ((map : List Val) × MayBegin L.holds tx.new.attempts.caller map) }
     {
         let slot = tx.get(self.cells.slot_at(at))?;
         if !is_key(key, slot.key) {
@@ -273,6 +286,7 @@ impl<V: Word> HashMap<V> {
         ensures most { IfOk result (λ reach. reach ≤ self.cells.capacity) }
         ensures reaches { IfOk result (λ reach. Does L.holds (end_of self) (Reaches self home reach)
             tx.old.attempts.caller tx.new.attempts.caller) }
+        ensures may { OnOk result ((map : List Val) × MayBegin L.holds tx.new.attempts.caller map) }
     {
         let reach = self.reach_by(tx, home)?;
         Ok(reach)

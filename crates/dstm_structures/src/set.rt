@@ -1,7 +1,8 @@
 // An ordered set in the cells of a memory.
-ghost use Rattle.std.specs.Prelude.{◌≡◌, false, IfErr, IfOk};
+ghost use Rattle.std.specs.Prelude.{◌≡◌, List, false, IfErr, IfOk, OnOk};
 ghost use Rattle.dstm_cells.specs.Alternatives.{Notes, noting};
-ghost use Rattle.dstm_cells.specs.UnderWay.{Keeps};
+ghost use Rattle.dstm_cells.specs.UnderWay.{Keeps, MayBegin};
+ghost use Rattle.dstm_model.specs.declared.value.Val.{Val};
 ghost use Rattle.dstm_structures.specs.Effects.{Does, Stops};
 ghost use Rattle.dstm_structures.specs.Maps.{end_of};
 ghost use Rattle.dstm_structures.specs.Orders.{order_end};
@@ -73,6 +74,7 @@ impl OrderedSet {
         ensures stops { IfErr result (λ stop. Stops (end_of self.map.map) false tx.old.attempts.caller stop.why) }
         ensures tells { IfOk result (λ answer. Does L.holds (end_of self.map.map) (TellsIf self key answer)
             tx.old.attempts.caller tx.new.attempts.caller) }
+        ensures may { OnOk result ((map : List Val) × MayBegin L.holds tx.new.attempts.caller map) }
     {
         self.map.contains(tx, key)
     }

@@ -11,6 +11,7 @@ loop-passed-init g c = (
   does-as c.in_ok-reach.ensures.reaches
       (λ before after size. clear-start c.args.self c.args.key c.home-home.result c.in_ok-reach.reach before after
       c.home-home.ensures.home),
+  c.in_ok-reach.ensures.may,
 )
 
 pub returns-in_err-empty-clause-keeps : goal.returns-in_err-empty-clause-keeps
@@ -28,6 +29,7 @@ loop-passed-preserved g c = (
       (λ before mid after size. clear-next c.args.self c.args.key c.in_ok-reach.reach c.loop-passed.passed
       c.home-home.result c.behind.result before mid after c.home-home.ensures.home c.behind.ensures.behind
       c.behind.ensures.within),
+  c.in_ok-empty.ensures.may,
 )
 
 pub returns-clause-keeps : goal.returns-clause-keeps
@@ -41,3 +43,6 @@ returns-clause-clears g c =
     does-as c.loop-passed.invariant.2
     (λ before after size. clear-end c.args.self c.args.key c.in_ok-reach.reach c.loop-passed.passed before after
     (omega (arith, c.loop-passed-test.false)))
+
+pub returns-clause-may : goal.returns-clause-may
+returns-clause-may g c = c.loop-passed.invariant.3

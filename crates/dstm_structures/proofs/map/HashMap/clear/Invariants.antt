@@ -1,5 +1,7 @@
+use Rattle.std.proofs.Common.{List}
+use Rattle.dstm_model.specs.declared.value.Val.{Val}
 use Rattle.dstm_cells.specs.Alternatives.{Notes, noting}
-use Rattle.dstm_cells.specs.UnderWay.{Keeps}
+use Rattle.dstm_cells.specs.UnderWay.{Keeps, MayBegin}
 use Rattle.dstm_structures.specs.Effects.{Does}
 use Rattle.dstm_structures.specs.Maps.{end_of}
 use Rattle.dstm_structures.proofs.Mapping.{Clearing}
@@ -11,3 +13,4 @@ invariant-loop-passed g l =
     Keeps l.fn.tx.attempts.caller l.tx.attempts.caller
     × Notes g.L.Law.holds (noting l.fn.tx) (noting l.tx)
     × Does g.L.Law.holds (end_of l.self) (Clearing l.self l.key l.reach l.passed) l.fn.tx.attempts.caller l.tx.attempts.caller
+    × ((map : List Val) × MayBegin g.L.Law.holds l.tx.attempts.caller map)

@@ -10,3 +10,6 @@ returns-clause-notes g c = goes-notes c.in_ok-place.ensures.stays
 
 pub returns-clause-seeks : goal.returns-clause-seeks
 returns-clause-seeks g c = does-shown (Seeks c.args.self c.args.key c.in_ok-place.place) c.in_ok-place.ensures.stays c.in_ok-place.ensures.seeks
+
+pub returns-clause-may : goal.returns-clause-may
+returns-clause-may g c = (c.in_ok-place.ensures.may.0, c.in_ok-place.ensures.may.2.0)

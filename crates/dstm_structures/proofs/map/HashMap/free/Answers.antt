@@ -10,6 +10,7 @@ loop-passed-init g c = (
   c.in_ok-reach.ensures.notes,
   does-as c.in_ok-reach.ensures.reaches
       (λ before after size. pass-start c.args.self c.args.home c.in_ok-reach.reach before after),
+  c.in_ok-reach.ensures.may,
 )
 
 pub returns-in_err-slot-clause-keeps : goal.returns-in_err-slot-clause-keeps
@@ -39,6 +40,7 @@ loop-passed-preserved g c = (
       (λ before mid after size p reads. pass-next c.args.self c.args.home c.in_ok-reach.reach c.loop-passed.passed
       c.behind-at.result c.slot_at.result.object c.in_ok-slot.slot.key _ before mid after c.behind-at.ensures.behind c.slot_at.ensures
       (grind arith) p (reads-key reads) (sym c.is_free.ensures ∙ c.if-is_free.false)),
+  c.in_ok-slot.ensures.may,
 )
 
 pub returns-clause-keeps : goal.returns-clause-keeps
@@ -52,3 +54,6 @@ returns-clause-frees g c =
     does-as c.loop-passed.invariant.2
     (λ before after size. pass-none c.args.self c.args.home c.in_ok-reach.reach c.loop-passed.passed before after
     (omega (arith, c.loop-passed-test.false)))
+
+pub returns-clause-may : goal.returns-clause-may
+returns-clause-may g c = c.loop-passed.invariant.3

@@ -10,3 +10,6 @@ returns-clause-notes g c = goes-notes c.in_ok-answer.ensures.stays
 
 pub returns-clause-tells : goal.returns-clause-tells
 returns-clause-tells g c = does-shown (Tells g.V.Word.found c.args.self c.args.key c.in_ok-answer.answer) c.in_ok-answer.ensures.stays c.in_ok-answer.ensures.tells
+
+pub returns-clause-may : goal.returns-clause-may
+returns-clause-may g c = (c.in_ok-answer.ensures.may.0, c.in_ok-answer.ensures.may.2.0)

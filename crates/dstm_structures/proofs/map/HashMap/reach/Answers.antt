@@ -10,3 +10,6 @@ returns-clause-notes g c = goes-notes c.in_ok-reach.ensures.stays
 
 pub returns-clause-reaches : goal.returns-clause-reaches
 returns-clause-reaches g c = does-shown (Reaches c.args.self c.args.home c.in_ok-reach.reach) c.in_ok-reach.ensures.stays c.in_ok-reach.ensures.reaches
+
+pub returns-clause-may : goal.returns-clause-may
+returns-clause-may g c = (c.in_ok-reach.ensures.may.0, c.in_ok-reach.ensures.may.2.0)
