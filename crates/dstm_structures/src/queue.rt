@@ -139,8 +139,8 @@ impl<T: Word> Queue<T> {
         if count == 0 {
             return Ok(None);
         }
-        let value = tx.get(self.place(at))?;
-        Ok(Some(value))
+        let front = tx.get(self.place(at))?;
+        Ok(Some(front))
     }
 
     // The cell that holds the place of the first value, and how many there are.
