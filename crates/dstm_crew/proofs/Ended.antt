@@ -34,6 +34,7 @@ module _ (workload : Workload) (options : Options) where
     shared = record {
       within = number_below new.caller ran.on.rest;
       done = ran.done;
+      lines = ran.lines;
       none_wasted = ran.none_wasted;
       left = ran.left;
       few_reads = ran.few_reads;
@@ -54,6 +55,7 @@ module _ (workload : Workload) (options : Options) where
     done =
         subst (λ (ds : List Committed). AreDone workload.layout workload.jobs share.places.items share.done.items (reverse ds))
         (sym same) was.done;
+    lines = was.lines;
     none_wasted =
         none_at_close workload (next_job workload.jobs share.places.items share.done.items) old new c run was.within past own
         was.none_wasted;

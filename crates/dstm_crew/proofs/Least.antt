@@ -8,14 +8,13 @@ use Rattle.std.proofs.lemmas.List.{get_or-set_other}
 use Rattle.std.proofs.lemmas.Option.{none-some, same_Some}
 use Rattle.dstm_crew.specs.declared.collecting.Lead.{Lead}
 use Rattle.dstm_crew.specs.declared.share.Share.{Share}
-use Rattle.dstm_crew.specs.Collecting.{AreSpent, IsAhead, IsLeast, bound_of, heads, lesser_of, number_at, number_in}
+use Rattle.dstm_crew.specs.Collecting.{AreSpent, IsAhead, IsFirst, IsLeast, heads, lesser_of, number_at, number_in}
 
 -- ---- the least of numbers
 
 -- none of the numbers before a place is lower than what was found
-abbrev pub IsLeastBefore : (numbers : List (Option ℕ)) → (before : ℕ) → Option (ℕ × ℕ) → Type 0
-IsLeastBefore numbers before None = (k : ℕ) → k < before → number_in numbers k ≡ None
-IsLeastBefore numbers before (Some found) =
+abbrev pub IsLeastBefore : (numbers : List (Option ℕ)) → (before : ℕ) → (found : ℕ × ℕ) → Type 0
+IsLeastBefore numbers before found =
     (number_in numbers found.0 ≡ Some found.1) × ((k : ℕ) → k < before → IfSome (number_in numbers k) (λ n. found.1 ≤ n))
 
 number_past : (numbers : List (Option ℕ)) (k : ℕ) → length numbers ≤ k → number_in numbers k ≡ None
@@ -34,15 +33,40 @@ nothing_less : (n : ℕ) (o : Option ℕ) → o ≡ None → IfSome o (λ m. n �
 nothing_less n None is = tt
 nothing_less n (Some m) is = absurd (none-some m (sym is))
 
--- there is none at the place
-pub least_skip : (numbers : List (Option ℕ)) (place : ℕ) (found : Option (ℕ × ℕ)) →
-    IsLeastBefore numbers place found → number_in numbers place ≡ None → IsLeastBefore numbers (place + 1) found
-least_skip numbers place None least none = λ k within.
+weaker : (low high : ℕ) (o : Option ℕ) → low ≤ high → IfSome o (λ n. high ≤ n) → IfSome o (λ n. low ≤ n)
+weaker low high None le bound = tt
+weaker low high (Some n) le bound = omega (arith, le, bound)
+
+-- there is none before a place
+pub none_more : (numbers : List (Option ℕ)) (place : ℕ) → ((k : ℕ) → k < place → number_in numbers k ≡ None) →
+    number_in numbers place ≡ None → (k : ℕ) → k < place + 1 → number_in numbers k ≡ None
+none_more numbers place none here = λ k within.
     elim (cases_eq k place) [
-      | inl same ↦ ap (number_in numbers) same ∙ none
-      | inr other ↦ least k (omega (arith, within, other))
+      | inl same ↦ ap (number_in numbers) same ∙ here
+      | inr other ↦ none k (omega (arith, within, other))
     ]
-least_skip numbers place (Some found) least none = (
+
+pub none_all : (numbers : List (Option ℕ)) (before : ℕ) → length numbers ≤ before →
+    ((k : ℕ) → k < before → number_in numbers k ≡ None) → AreSpent numbers
+none_all numbers before all none = λ k.
+    elim (cases_lt k before) [ inl within ↦ none k within | inr past ↦ number_past numbers k (omega (arith, all, past)) ]
+
+-- the first is the least so far
+pub least_first : (numbers : List (Option ℕ)) (found : ℕ × ℕ) → IsFirst numbers found →
+    IsLeastBefore numbers (found.0 + 1) found
+least_first numbers found first = (
+  first.0,
+  λ k within.
+      elim (cases_eq k found.0) [
+        | inl same ↦ subst (λ (o : Option ℕ). IfSome o (λ m. found.1 ≤ m)) (sym (ap (number_in numbers) same ∙ first.0)) (omega arith)
+        | inr other ↦ nothing_less found.1 (number_in numbers k) (first.1 k (omega (arith, within, other)))
+      ],
+)
+
+-- there is none at the place
+pub least_skip : (numbers : List (Option ℕ)) (place : ℕ) (found : ℕ × ℕ) →
+    IsLeastBefore numbers place found → number_in numbers place ≡ None → IsLeastBefore numbers (place + 1) found
+least_skip numbers place found least none = (
   least.0,
   λ k within.
       elim (cases_eq k place) [
@@ -52,23 +76,15 @@ least_skip numbers place (Some found) least none = (
 )
 
 -- there is one at the place
-pub least_take : (numbers : List (Option ℕ)) (place n : ℕ) (found : Option (ℕ × ℕ)) →
+pub least_take : (numbers : List (Option ℕ)) (place n : ℕ) (found : ℕ × ℕ) →
     IsLeastBefore numbers place found → number_in numbers place ≡ Some n →
     IsLeastBefore numbers (place + 1) (lesser_of found place n)
-least_take numbers place n None least here = (
-  here,
-  λ k within.
-      elim (cases_eq k place) [
-        | inl same ↦ subst (λ (o : Option ℕ). IfSome o (λ m. n ≤ m)) (sym (ap (number_in numbers) same ∙ here)) (omega arith)
-        | inr other ↦ nothing_less n (number_in numbers k) (least k (omega (arith, within, other)))
-      ],
-)
-least_take numbers place n (Some found) least here = by (cases_Bool (nat_le found.1 n))
+least_take numbers place n found least here = by (cases_Bool (nat_le found.1 n))
   where
     by : (nat_le found.1 n ≡ true) ⊎ (nat_le found.1 n ≡ false) →
-        IsLeastBefore numbers (place + 1) (cond (nat_le found.1 n) (Some found) (Some (place, n)))
+        IsLeastBefore numbers (place + 1) (cond (nat_le found.1 n) found (place, n))
     by (inl less) =
-        subst (λ (b : Bool). IsLeastBefore numbers (place + 1) (cond b (Some found) (Some (place, n)))) (sym less) (
+        subst (λ (b : Bool). IsLeastBefore numbers (place + 1) (cond b found (place, n))) (sym less) (
           least.0,
           λ k within.
               elim (cases_eq k place) [
@@ -78,34 +94,22 @@ least_take numbers place n (Some found) least here = by (cases_Bool (nat_le foun
               ],
         )
     by (inr more) =
-        subst (λ (b : Bool). IsLeastBefore numbers (place + 1) (cond b (Some found) (Some (place, n)))) (sym more) (
+        subst (λ (b : Bool). IsLeastBefore numbers (place + 1) (cond b found (place, n))) (sym more) (
           here,
           λ k within.
               elim (cases_eq k place) [
                 | inl same ↦ subst (λ (o : Option ℕ). IfSome o (λ m. n ≤ m)) (sym (ap (number_in numbers) same ∙ here)) (omega arith)
-                | inr other ↦ weaker k (least.1 k (omega (arith, within, other)))
+                | inr other ↦ weaker n found.1 (number_in numbers k) (omega (arith, above)) (least.1 k (omega (arith, within, other)))
               ],
         )
       where
-        weaker : (k : ℕ) → IfSome (number_in numbers k) (λ m. found.1 ≤ m) → IfSome (number_in numbers k) (λ m. n ≤ m)
-        weaker k least = at (number_in numbers k) least
-          where
-            above : n < found.1
-            above = elim (leb_tells found.1 n) [ inl le ↦ absurd (true≢false (sym le.0 ∙ more)) | inr gt ↦ gt.1 ]
-
-            at : (o : Option ℕ) → IfSome o (λ m. found.1 ≤ m) → IfSome o (λ m. n ≤ m)
-            at None none = tt
-            at (Some m) le = omega (arith, le, above)
+        above : n < found.1
+        above = elim (leb_tells found.1 n) [ inl le ↦ absurd (true≢false (sym le.0 ∙ more)) | inr gt ↦ gt.1 ]
 
 -- all were looked at
-pub least_none : (numbers : List (Option ℕ)) (before : ℕ) → length numbers ≤ before →
-    IsLeastBefore numbers before None → AreSpent numbers
-least_none numbers before all least = λ k.
-    elim (cases_lt k before) [ inl within ↦ least k within | inr past ↦ number_past numbers k (omega (arith, all, past)) ]
-
-pub least_some : (numbers : List (Option ℕ)) (before : ℕ) (found : ℕ × ℕ) → length numbers ≤ before →
-    IsLeastBefore numbers before (Some found) → IsLeast numbers found.0
-least_some numbers before found all least = record {
+pub least_all : (numbers : List (Option ℕ)) (before : ℕ) (found : ℕ × ℕ) → length numbers ≤ before →
+    IsLeastBefore numbers before found → IsLeast numbers found.0
+least_all numbers before found all least = record {
   number = found.1;
   own = least.0;
   least = λ k. elim (cases_lt k before) [
@@ -117,39 +121,37 @@ least_some numbers before found all least = record {
 -- ---- a bound of all numbers but the least
 
 -- none of the numbers before a place is below the bound, but what was found
-abbrev pub IsBoundBefore : (numbers : List (Option ℕ)) → (before : ℕ) → Option (ℕ × ℕ) → (bound : ℕ) → Type 0
-IsBoundBefore numbers before None bound = Unit {0}
-IsBoundBefore numbers before (Some found) bound =
+abbrev pub IsBoundBefore : (numbers : List (Option ℕ)) → (before : ℕ) → (found : ℕ × ℕ) → (bound : ℕ) → Type 0
+IsBoundBefore numbers before found bound =
     (k : ℕ) → k < before → k ≢ found.0 → IfSome (number_in numbers k) (λ n. bound ≤ n)
 
-weaker : (low high : ℕ) (o : Option ℕ) → low ≤ high → IfSome o (λ n. high ≤ n) → IfSome o (λ n. low ≤ n)
-weaker low high None le bound = tt
-weaker low high (Some n) le bound = omega (arith, le, bound)
+-- any bounds what stands before the first
+pub bound_first : (numbers : List (Option ℕ)) (found : ℕ × ℕ) (bound : ℕ) → IsFirst numbers found →
+    IsBoundBefore numbers (found.0 + 1) found bound
+bound_first numbers found bound first = λ k within other.
+    nothing_less bound (number_in numbers k) (first.1 k (omega (arith, within, other)))
 
-pub bound_skip : (numbers : List (Option ℕ)) (place : ℕ) (found : Option (ℕ × ℕ)) (bound : ℕ) →
+pub bound_skip : (numbers : List (Option ℕ)) (place : ℕ) (found : ℕ × ℕ) (bound : ℕ) →
     IsBoundBefore numbers place found bound → number_in numbers place ≡ None → IsBoundBefore numbers (place + 1) found bound
-bound_skip numbers place None bound below none = tt
-bound_skip numbers place (Some found) bound below none = λ k within other.
+bound_skip numbers place found bound below none = λ k within other.
     elim (cases_eq k place) [
       | inl same ↦ nothing_less bound (number_in numbers k) (ap (number_in numbers) same ∙ none)
       | inr apart ↦ below k (omega (arith, within, apart)) other
     ]
 
-pub bound_take : (numbers : List (Option ℕ)) (place n : ℕ) (found : Option (ℕ × ℕ)) (bound : ℕ) →
+pub bound_take : (numbers : List (Option ℕ)) (place n : ℕ) (found : ℕ × ℕ) (bound : ℕ) →
     IsLeastBefore numbers place found → IsBoundBefore numbers place found bound → number_in numbers place ≡ Some n →
-    IsBoundBefore numbers (place + 1) (lesser_of found place n) (bound_of found bound n)
-bound_take numbers place n None bound least below here = λ k within other.
-    nothing_less bound (number_in numbers k) (least k (omega (arith, within, other)))
-bound_take numbers place n (Some found) bound least below here = by (cases_Bool (nat_le found.1 n))
+    IsBoundBefore numbers (place + 1) (lesser_of found place n) (min bound (max found.1 n))
+bound_take numbers place n found bound least below here = by (cases_Bool (nat_le found.1 n))
   where
     lower : ℕ
     lower = min bound (max found.1 n)
 
     by : (nat_le found.1 n ≡ true) ⊎ (nat_le found.1 n ≡ false) →
-        IsBoundBefore numbers (place + 1) (cond (nat_le found.1 n) (Some found) (Some (place, n))) lower
+        IsBoundBefore numbers (place + 1) (cond (nat_le found.1 n) found (place, n)) lower
     by (inl less) =
         let le : found.1 ≤ n = leb-true found.1 n less in
-        subst (λ (b : Bool). IsBoundBefore numbers (place + 1) (cond b (Some found) (Some (place, n))) lower) (sym less)
+        subst (λ (b : Bool). IsBoundBefore numbers (place + 1) (cond b found (place, n)) lower) (sym less)
         (λ k within other.
         elim (cases_eq k place) [
           | inl same ↦ subst (λ (o : Option ℕ). IfSome o (λ m. lower ≤ m)) (sym (ap (number_in numbers) same ∙ here)) (omega (arith, le))
@@ -157,7 +159,7 @@ bound_take numbers place n (Some found) bound least below here = by (cases_Bool 
         ])
     by (inr more) =
         let gt : n < found.1 = elim (leb_tells found.1 n) [ inl le ↦ absurd (true≢false (sym le.0 ∙ more)) | inr gt ↦ gt.1 ] in
-        subst (λ (b : Bool). IsBoundBefore numbers (place + 1) (cond b (Some found) (Some (place, n))) lower) (sym more)
+        subst (λ (b : Bool). IsBoundBefore numbers (place + 1) (cond b found (place, n)) lower) (sym more)
         (λ k within other.
         let before : k < place = omega (arith, within, other) in
         elim (cases_eq k found.0) [
@@ -209,9 +211,9 @@ ahead_set numbers lead o ahead = λ k other.
     subst (λ (x : Option ℕ). IfSome x (λ n. lead.bound ≤ n)) (sym (get_or-set_other numbers lead.place k o None other)) (ahead k other)
 
 -- the place is that of a number
-pub least_within : (numbers : List (Option ℕ)) (before : ℕ) (pair : ℕ × ℕ) → IsLeastBefore numbers before (Some pair) →
-    pair.0 < length numbers
-least_within numbers before pair least = number_within numbers pair.0 pair.1 least.0
+pub place_within : (numbers : List (Option ℕ)) (found : ℕ × ℕ) → number_in numbers found.0 ≡ Some found.1 →
+    found.0 < length numbers
+place_within numbers found is = number_within numbers found.0 found.1 is
 
 -- ---- the next numbers of shares
 

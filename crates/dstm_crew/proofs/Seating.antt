@@ -81,6 +81,7 @@ module _ (table : Table) where
     none_done = new.none_done;
     within = still.within;
     empty = still.empty;
+    no_lines = still.no_lines;
     room = still.room;
   }
 

@@ -94,6 +94,7 @@ module _ (workload : Workload) (options : Options) (number : ℕ) (rows : List R
           (λ i s there. (at_place (IsOpen workload) shares i s are.open_yet there).within))) here;
       enough = done_enough workload share.places.items share.done.items _
           (shared_at workload options closed shares_then run.callers k share run.shared here).done;
+      lines = (shared_at workload options closed shares_then run.callers k share run.shared here).lines;
     });
     apart = subst AreApart (sym (workers_kept shares shares_then run.same ∙ are.one_each))
         (workers_apart_all workload number turns.left);

@@ -1,10 +1,11 @@
 -- A worker that has run some of its jobs.
-use Rattle.std.proofs.Common.{◌≡◌, ◌≢◌, ◌∙◌, ◌⊎◌, ◌<◌, ◌≤◌, ◌++◌, ◌∷◌, ◌==◌, ℕ, Bool, List, [], true, false, Some, refl, sym, ap, subst, inl, inr, arith, length, reverse, get_or, true≢false}
+use Rattle.std.proofs.Common.{◌≡◌, ◌≢◌, ◌∙◌, ◌⊎◌, ◌<◌, ◌≤◌, ◌++◌, ◌∷◌, ◌==◌, ℕ, suc, zero, Bool, List, [], true, false, Some, refl, sym, ap, subst, inl, inr, arith, length, reverse, get_or, true≢false}
 use Rattle.std.specs.Prelude.{◌&&◌, All, Option, not, zip, if◌then◌else◌}
+use Rattle.std.specs.List.{slice_get}
 use Rattle.std.specs.Option.{option_map}
 use Rattle.std.proofs.lemmas.Bool.{cases_eq, cases_lt, eq-eqb, eqb-true, ne_eqb}
 use Rattle.std.proofs.lemmas.List.Elements.{All-cons, All-head, All-nil, All-tail, All-weaker}
-use Rattle.std.proofs.lemmas.Option.{slice_get-get_or}
+use Rattle.std.proofs.lemmas.Option.{none-some, same_Some, slice_get-get_or}
 use mathlib.Core.List.{reverse-cons}
 use Rattle.dstm_model.specs.Answers.{Committed}
 use Rattle.dstm_model.specs.declared.layout.Layout.{Layout}
@@ -36,7 +37,7 @@ use Rattle.dstm_records.specs.Records.{IsReleasing, KeepsReads}
 use Rattle.dstm_crew.specs.declared.worker.Worker.{Worker}
 use Rattle.dstm_crew.specs.Releases.{is_dstm, releases}
 use Rattle.dstm_crew.specs.Tries.{HasDone, HasLeft, HasNoneLeft, NoneWastedSince, StaysBlocked}
-use Rattle.dstm_crew.specs.Workers.{AreDone, HasRun, next_job}
+use Rattle.dstm_crew.specs.Workers.{AreDone, AreLines, HasRun, next_job}
 use Rattle.dstm_crew.proofs.Retrying.{earlier}
 
 -- ---- styles
@@ -145,6 +146,23 @@ AreDone-push {layout = layout} jobs (p ∷ places) (f ∷ finished) (d ∷ by) {
     is =
     (are.0, AreDone-push jobs places finished by place (omega (arith, more)) at are.1 is)
 
+-- the line of one job more
+pub lines_push : (jobs : List Job) (places lines : List ℕ) (place : ℕ) → length lines < length places →
+    place ≡ get_or places (length lines) place → AreLines jobs places lines →
+    AreLines jobs places (lines ++ (job_at jobs place).line ∷ [])
+lines_push jobs [] lines place more at are = absurd (omega (arith, more))
+lines_push jobs (p ∷ places) [] place more at are = (ap (λ (q : ℕ). (job_at jobs q).line) (sym at), tt)
+lines_push jobs (p ∷ places) (l ∷ lines) place more at are =
+    (are.0, lines_push jobs places lines place (omega (arith, more)) at are.1)
+
+-- what is kept at a place is the line of the job there
+pub line_there : (jobs : List Job) (places lines : List ℕ) (k : ℕ) {line : ℕ} → AreLines jobs places lines →
+    slice_get lines k ≡ Some line → line ≡ (job_at jobs (get_or places k 0)).line
+line_there jobs places [] k {line = line} are there = absurd (none-some line there)
+line_there jobs [] (l ∷ lines) k are there = absurd are
+line_there jobs (p ∷ places) (l ∷ lines) zero {line = line} are there = sym (are.0 ∙ same_Some l line there)
+line_there jobs (p ∷ places) (l ∷ lines) (suc k) are there = line_there jobs places lines k are.1 there
+
 -- ---- what transactions keep of their reads
 
 -- a transaction keeps few reads for the job at its place
@@ -239,7 +257,8 @@ next_is jobs places finished place more at is =
 
 module _ (workload : Workload) (options : Options) (old new : Worker) (unbegun : begun old.caller ≡ 0)
     {style : Style} (is_style : style ≡ style_of workload.version (releases options))
-    (number : new.number ≡ old.number) (places : new.places.items ≡ old.places.items) where
+    (number : new.number ≡ old.number) (places : new.places.items ≡ old.places.items)
+    (lines : AreLines workload.jobs new.places.items new.done.lines) where
   abbrev next : Option Job
   next = next_job workload.jobs new.places.items new.done.items
 
@@ -297,6 +316,7 @@ module _ (workload : Workload) (options : Options) (old new : Worker) (unbegun :
     places = places;
     on = stands.on;
     done = stands.done;
+    lines = lines;
     none_wasted = λ i some few. not_wasted i (stands.none_wasted i (omega arith) few);
     left = λ few. absurd (omega arith);
     few_reads = λ releasing. stands.few_reads (was_loose releasing);
@@ -310,6 +330,7 @@ module _ (workload : Workload) (options : Options) (old new : Worker) (unbegun :
     places = places;
     on = goes_on old.caller n new.caller stands.on was.on;
     done = still_done stands was.same_done;
+    lines = lines;
     none_wasted = λ i some few.
         not_wasted i (then_none style (begun new.caller) stands.on was.on stands.none_wasted
         (same_since release n (begun new.caller) was.none_wasted) i (omega arith) few);
@@ -327,6 +348,7 @@ module _ (workload : Workload) (options : Options) (old new : Worker) (unbegun :
     places = places;
     on = goes_on old.caller n new.caller stands.on was.on;
     done = still_done stands was.same_done;
+    lines = lines;
     none_wasted = λ i some few. by i some few (cases_eq i (begun new.caller));
     left = λ few. inr (let b = was.is_last in omega arith, waited);
     few_reads = same_few stands was.on was.same_done;

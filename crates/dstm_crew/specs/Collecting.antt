@@ -1,5 +1,5 @@
 -- Private: collecting: what the workers of a parallel round have done, in the order of the numbers that the transactions drew.
-use Rattle.std.specs.Prelude.{◌≡◌, ◌≢◌, min, max, ℕ, ◌<◌, ◌≤◌, ◌==◌, nat_le, if◌then◌else◌, List, [], ◌∷◌, ◌++◌, length, map, zip, true, All, Option, Some, None, IfSome, slice_index, slice_index_or}
+use Rattle.std.specs.Prelude.{◌≡◌, ◌≢◌, ℕ, ◌<◌, ◌≤◌, ◌==◌, nat_le, if◌then◌else◌, List, [], ◌∷◌, ◌++◌, length, map, zip, true, All, Option, Some, None, IfSome, slice_index, slice_index_or}
 use Rattle.std.specs.List.{slice_get}
 use Rattle.std.specs.Option.{option_map}
 use Rattle.dstm_jobs.specs.Tables.{IsRun, Round}
@@ -15,15 +15,16 @@ use Rattle.dstm_tables.specs.Tells.{callers_of, committed_of, lets_go}
 use Rattle.dstm_records.specs.Rounds.{has_job, left_by}
 use Rattle.dstm_records.specs.Running.{turns_behind}
 use Rattle.dstm_records.specs.Told.{AreTold}
-use Rattle.dstm_crew.specs.Workers.{next_job}
+use Rattle.dstm_crew.specs.Workers.{AreLines, next_job}
 use Rattle.dstm_crew.specs.declared.collecting.Lead.{Lead}
 use Rattle.dstm_crew.specs.declared.share.Share.{Share}
 use Rattle.dstm_crew.specs.Shares.{AreShared}
 
--- the share's jobs are jobs of the workload, and no more was done than it has
+-- the share's jobs are jobs of the workload, no more was done than it has, and the lines are those of its jobs
 pub record IsFit (workload : Workload) (share : Share) : Type 0 where
   pub within : All (λ place. place < length workload.jobs) share.places.items
   pub enough : length share.done.items ≤ length share.places.items
+  pub lines : AreLines workload.jobs share.places.items share.done.lines
 
 -- Shares of different workers, each with its worker's jobs that are left behind these rows.
 pub record CanCollect (workload : Workload) (shares : List Share) (rows : List Row) (turns : Turning) : Type 0 where
@@ -68,15 +69,14 @@ AreSpent numbers = (place : ℕ) → number_in numbers place ≡ None
 abbrev pub IsNext : List Share → (next : List ℕ) → (place : ℕ) → Type 0
 IsNext shares next place = IsLeast (heads shares next) place
 
--- a place and a number, unless what was found before has a number that is not greater
-abbrev pub lesser_of : Option (ℕ × ℕ) → (place number : ℕ) → Option (ℕ × ℕ)
-lesser_of None place number = Some (place, number)
-lesser_of (Some found) place number = if nat_le found.1 number then Some found else Some (place, number)
+-- it is the first place that has a number, and that number
+abbrev pub IsFirst : (numbers : List (Option ℕ)) → ℕ × ℕ → Type 0
+IsFirst numbers found =
+    (number_in numbers found.0 ≡ Some found.1) × ((k : ℕ) → k < found.0 → number_in numbers k ≡ None)
 
--- a bound of all numbers but the least, with one number more
-abbrev pub bound_of : Option (ℕ × ℕ) → (bound number : ℕ) → ℕ
-bound_of None bound number = bound
-bound_of (Some found) bound number = min bound (max found.1 number)
+-- a place and a number, unless what was found before has a number that is not greater
+abbrev pub lesser_of : ℕ × ℕ → (place number : ℕ) → ℕ × ℕ
+lesser_of found place number = if nat_le found.1 number then found else (place, number)
 
 -- nothing is left of any share
 abbrev pub AreTaken : List Share → (next : List ℕ) → Type 0

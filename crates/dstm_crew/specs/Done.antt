@@ -7,6 +7,7 @@ use Rattle.dstm_crew.specs.declared.done.Mark.{Mark}
 
 pub record DoneAs : Type 0 where
   pub items : List Finished  -- what was done, in order
+  pub lines : List ℕ  -- where each job that was done stands
   pub room : ℕ  -- for how many jobs there is room
 
 -- what the marks tell
@@ -15,6 +16,9 @@ told_by replies mark = record { number = mark.number; replies = slice_range repl
 
 abbrev pub told : List Reply → List Mark → List Finished
 told replies marks = map (told_by replies) marks
+
+abbrev pub lines_of : List Mark → List ℕ
+lines_of marks = map (λ mark. mark.line) marks
 
 -- at most 8 replies, among the first so many
 pub record IsWithin (all : ℕ) (mark : Mark) : Type 0 where

@@ -10,7 +10,7 @@ use Rattle.dstm_options.specs.declared.options.Options.{Options}
 use Rattle.dstm_records.specs.Records.{IsMade, IsReleasing, IsRun, KeepsReads, seed_for}
 use Rattle.dstm_jobs.specs.Answers.{KeepsFew}
 use Rattle.dstm_records.specs.Rounds.{all_workers, greatest, has_job}
-use Rattle.dstm_crew.specs.Workers.{AreDone, next_job}
+use Rattle.dstm_crew.specs.Workers.{AreDone, AreLines, next_job}
 use Rattle.dstm_tables.specs.Tells.{ByCalls, callers_of, done_of, let_go_by, lets_go, start_of, values_of}
 use Rattle.dstm_jobs.specs.Jobs.{HadToStop, NoneWasted}
 use Rattle.dstm_crew.specs.declared.share.Share.{Share}
@@ -28,6 +28,7 @@ workers_of workload number left = filter (takes_part number left) (all_workers w
 pub record IsOpen (workload : Workload) (share : Share) : Type 0 where
   pub within : All (λ place. place < length workload.jobs) share.places.items
   pub empty : share.done.items ≡ []
+  pub no_lines : share.done.lines ≡ []
   pub room : length share.places.items ≤ share.done.room
 
 -- each of these workers has a share, with its jobs that are left
@@ -47,6 +48,8 @@ pub record IsShared (workload : Workload) (options : Options) (r : Round) (share
   pub within : c < callers_of r
   -- what the worker has done, one for one, by the transactions that its caller has committed, in order
   pub done : AreDone workload.layout workload.jobs share.places.items share.done.items (reverse (done_of r c))
+  -- and their lines
+  pub lines : AreLines workload.jobs share.places.items share.done.lines
   -- no attempt of its caller was wasted
   pub none_wasted : NoneWasted workload (next_job workload.jobs share.places.items share.done.items) r c
   -- it left jobs behind only where it had to

@@ -25,6 +25,12 @@ AreDone layout jobs (place ∷ places) (finished ∷ more) (by ∷ later) =
     IsDone layout (job_at jobs place) finished by × AreDone layout jobs places more later
 AreDone layout jobs places finished by = ⊥
 
+-- the lines of the jobs at some places, from the first on
+abbrev pub AreLines : List Job → (places lines : List ℕ) → Type 0
+AreLines jobs places [] = Unit {0}
+AreLines jobs (place ∷ places) (line ∷ lines) = ((job_at jobs place).line ≡ line) × AreLines jobs places lines
+AreLines jobs [] (line ∷ lines) = ⊥
+
 -- the job at the first place behind those that were done, if there is one
 abbrev pub next_job : List Job → (places : List ℕ) → List Finished → Option Job
 next_job jobs places finished = option_map (job_at jobs) (slice_get places (length finished))
@@ -40,6 +46,7 @@ pub record IsReady (workload : Workload) (table : Table) (worker : Worker) : Typ
   pub none_done : done worker.caller ≡ []
   pub within : All (λ place. place < length workload.jobs) worker.places.items
   pub empty : worker.done.items ≡ []
+  pub no_lines : worker.done.lines ≡ []
   pub room : length worker.places.items ≤ worker.done.room
 
 -- a worker that has run its jobs
@@ -49,6 +56,8 @@ pub record HasRun (workload : Workload) (options : Options) (old new : Worker) :
   pub on : GoesOn old.caller new.caller
   -- what it has done, one for one, by the transactions that its caller has committed, in order
   pub done : AreDone workload.layout workload.jobs new.places.items new.done.items (reverse (done new.caller))
+  -- and their lines
+  pub lines : AreLines workload.jobs new.places.items new.done.lines
   -- no attempt of its caller was wasted
   pub none_wasted : NoneWasted workload (next_job workload.jobs new.places.items new.done.items)
       (round_of new.caller) (number_of new.caller)

@@ -3,7 +3,7 @@ ghost use Rattle.std.specs.Bool.{OnTrue};
 ghost use Rattle.dstm_jobs.specs.Tables.{Round};
 ghost use Rattle.dstm_options.specs.declared.options.Options.{Options as Choices};
 ghost use Rattle.dstm_report.specs.Turns.{job_at};
-ghost use Rattle.dstm_crew.specs.Collecting.{AreRunBy, AreSpent, CanCollect, HasCollected, IsAhead, IsFit, IsLeast, IsRowOf, bound_of, heads, lesser_of, number_at, number_in};
+ghost use Rattle.dstm_crew.specs.Collecting.{AreRunBy, AreSpent, CanCollect, HasCollected, IsAhead, IsFirst, IsFit, IsLeast, IsRowOf, heads, lesser_of, number_at, number_in};
 
 use crate::share::Share;
 use dstm_model::{Replies, Reply};
@@ -97,37 +97,42 @@ fn least_of(numbers: &[Option<u64>]) -> Option<Lead>
     ensures within { IfSome result (λ lead. lead.place < length numbers.now) }
     ensures none { IfNone result (AreSpent numbers.now) }
 {
-    let mut least: Option<(usize, u64)> = None;
+    let mut least = first_of(numbers)?;
     let mut bound = u64::MAX;
-    for place in 0..numbers.len() {
+    for place in least.0 + 1..numbers.len() {
         if let Some(number) = numbers[place] {
-            bound = bound_with(least, bound, number);
+            bound = bound.min(least.1.max(number));
             least = lesser(least, place, number);
         }
     }
-    match least {
-        Some((place, _)) => Some(Lead { place, bound }),
-        None => None,
-    }
+    Some(Lead {
+        place: least.0,
+        bound,
+    })
 }
 
-// What none of the others is below, beside a number that was found before and this one.
-fn bound_with(found: Option<(usize, u64)>, bound: u64, number: u64) -> u64
-    ensures { result ≡ bound_of found bound number }
+// The first place that has a number, and that number.
+fn first_of(numbers: &[Option<u64>]) -> Option<(usize, u64)>
+    ensures first { IfSome result (IsFirst numbers.now) }
+    ensures within { IfSome result (λ found. found.0 < length numbers.now) }
+    ensures none { IfNone result (AreSpent numbers.now) }
 {
-    match found {
-        Some((_, before)) => bound.min(before.max(number)),
-        None => bound,
+    for place in 0..numbers.len() {
+        if let Some(number) = numbers[place] {
+            return Some((place, number));
+        }
     }
+    None
 }
 
-// The place and the number that were found before, or these where the number is less.
-fn lesser(found: Option<(usize, u64)>, place: usize, number: u64) -> Option<(usize, u64)>
+// The place and the number that were found before, or these where the number is less. The processor need not guess which.
+fn lesser(found: (usize, u64), place: usize, number: u64) -> (usize, u64)
     ensures { result ≡ lesser_of found place number }
 {
-    match found {
-        Some((before, least)) if least <= number => Some((before, least)),
-        _ => Some((place, number)),
+    if found.1 <= number {
+        found
+    } else {
+        (place, number)
     }
 }
 
@@ -167,8 +172,7 @@ fn line_at(workload: &Workload, share: &Share, place: usize) -> u64
     requires fit { IsFit workload.now share.now }
     ensures { result ≡ (job_at workload.now.jobs (slice_index share.now.places.items place)).line }
 {
-    let job = &workload.jobs.as_slice()[share.places[place]];
-    job.line
+    share.done.line(place)
 }
 
 // The number of what was done at a place.

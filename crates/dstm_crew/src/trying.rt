@@ -28,7 +28,10 @@ pub fn try_job(
     requires can { CanTry style layout.now job.now }
     requires room { length all.old.items < all.old.room }
     ensures done { OnOk result ((finished : Finished) × (HasDone style layout.now job.now caller.old caller.new finished
-        × (all.new ≡ record all.old { items = all.old.items ++ finished ∷ [] }))) }
+        × (all.new ≡ record all.old {
+          items = all.old.items ++ finished ∷ [];
+          lines = all.old.lines ++ job.now.line ∷ [];
+        }))) }
     ensures same { OnErr result (all.new ≡ all.old) }
     ensures left { IfErr result (HasLeft style layout.now job.now caller.old caller.new) }
     ensures keeps { style ≢ Loose → let_go caller.new ≡ let_go caller.old }
@@ -38,7 +41,7 @@ pub fn try_job(
         let tried = attempt_job(style, RECHECKS, caller, table, layout, job);
         match &tried {
             Tried::Done(finished) => {
-                all.push(finished);
+                all.push(finished, job.line);
                 return Ok(());
             }
             Tried::Spent => return Err(Left::Spent),

@@ -36,6 +36,7 @@ loop-worker-preserved c =
             within = subst (λ (js : List Job). All (λ place. place < length js) c.in_ok-places.places.items) c.requires
                 c.in_ok-places.ensures.within;
             empty = ap (λ (d : DoneAs). d.items) w.in_ok-done.ensures;
+            no_lines = ap (λ (d : DoneAs). d.lines) w.in_ok-done.ensures;
             room = let cap = ap (λ (d : DoneAs). d.room) w.in_ok-done.ensures in
                 let len = w.len.ensures in
                 let ok = c.in_ok-places.places.ok.0 in

@@ -14,7 +14,10 @@ returns-in-Done-clause-done c = (
   (
     waited_done c.loop-finished.invariant.1 (rw c.in-Done.is at c.attempt_job-tried.ensures.tried),
     c.push.ensures
-        ∙ ap (λ (d : DoneAs). record d { items = d.items ++ c.in-Done.finished ∷ [] }) c.loop-finished.invariant.3,
+        ∙ ap (λ (d : DoneAs). record d {
+          items = d.items ++ c.in-Done.finished ∷ [];
+          lines = d.lines ++ c.args.job.now.line ∷ [];
+        }) c.loop-finished.invariant.3,
   ),
 )
 

@@ -23,6 +23,7 @@ run-requires-clause-ready c =
       within = subst (λ (jobs : List Job). All (λ place. place < length jobs) c.in_ok-places.places.items) c.as_slice.ensures
           c.in_ok-places.ensures;
       empty = ap (λ (d : DoneAs). d.items) c.in_ok-done.ensures;
+      no_lines = ap (λ (d : DoneAs). d.lines) c.in_ok-done.ensures;
       room = let cap = ap (λ (d : DoneAs). d.room) c.in_ok-done.ensures in
           let len = c.len.ensures in
           let ok = c.in_ok-places.places.ok.0 in

@@ -1,4 +1,4 @@
-use Rattle.std.proofs.Common.{◌≡◌, ◌<◌, ◌≤◌, ◌+◌, ℕ, List, [], ◌∷◌, ◌++◌, get_or, length, length-append, rules, refl, sym, ap, subst, ◌∙◌}
+use Rattle.std.proofs.Common.{◌≡◌, ◌<◌, ◌≤◌, ◌+◌, ℕ, List, [], ◌∷◌, ◌++◌, arith, get_or, length, length-append, rules, refl, sym, ap, subst, ◌∙◌}
 use Rattle.std.proofs.lemmas.List.{get_or_default}
 use Rattle.dstm_workload.specs.declared.workload.Job.{Job}
 use Rattle.dstm_report.specs.Turns.{job_at, no_job}
@@ -7,8 +7,8 @@ use Rattle.dstm_jobs.specs.declared.trying.Finished.{Finished}
 use Rattle.dstm_crew.specs.Done.{DoneAs}
 use Rattle.dstm_crew.specs.Releases.{releases}
 use Rattle.dstm_crew.specs.Tries.{HasLeft}
-use Rattle.dstm_crew.specs.Workers.{next_job}
-use Rattle.dstm_crew.proofs.Worked.{Stands, all_done, at_start, next_is, not_loose, one_done, stopped}
+use Rattle.dstm_crew.specs.Workers.{AreLines, next_job}
+use Rattle.dstm_crew.proofs.Worked.{Stands, all_done, at_start, lines_push, next_is, not_loose, one_done, stopped}
 use Rattle.dstm_crew.proofs.worker.Worker.run.Given.{Over}
 use Rattle.dstm_crew.proofs.worker.Worker.run.Goals.{After-try_job}
 use Rattle.dstm_crew.proofs.worker.Worker.run.Goals as goal
@@ -27,6 +27,8 @@ loop-at-init g c =
       ready.room,
       subst (λ (fs : List Finished). Stands workload c.style_for-style.result k k places fs) (sym ready.empty) stands,
       λ _. refl,
+      subst (AreLines workload.jobs places) (sym ready.no_lines) tt,
+      ap length ready.no_lines,
     )
 
 -- the job of this turn is the next one
@@ -60,7 +62,10 @@ loop-at-preserved g c =
     let style = c.style_for-style.result in
     let stands : Stands workload style k m places (finished ++ next ∷ []) =
     one_done place c.loop-at.invariant.4 told.1.0 more at is in
-    let items : c.try_job.new.all.items ≡ finished ++ next ∷ [] = ap (λ (d : DoneAs). d.items) told.1.1 in (
+    let before = c.loop-at.self.done.lines in
+    let lined : length before ≡ c.loop-at.at = c.loop-at.invariant.7 in
+    let items : c.try_job.new.all.items ≡ finished ++ next ∷ [] = ap (λ (d : DoneAs). d.items) told.1.1 in
+    let lines : c.try_job.new.all.lines ≡ before ++ job.line ∷ [] = ap (λ (d : DoneAs). d.lines) told.1.1 in (
       c.loop-at.invariant.0,
       c.loop-at.invariant.1,
       ap length items ∙ length-append finished (next ∷ []) ∙ ap (λ (n : ℕ). n + 1) count,
@@ -70,6 +75,11 @@ loop-at-preserved g c =
           c.try_job.ensures.keeps
           (not_loose c.args.options.now workload.version c.requires.valid.newest c.style_for-style.ensures none)
           ∙ c.loop-at.invariant.5 none,
+      subst (AreLines workload.jobs places) (sym lines)
+          (subst (λ (line : ℕ). AreLines workload.jobs places (before ++ line ∷ [])) (sym (ap (λ (j : Job). j.line) is))
+          (lines_push workload.jobs places before place (omega (arith, more, count, lined))
+          (subst (λ (i : ℕ). place ≡ get_or places i place) (count ∙ sym lined) at) c.loop-at.invariant.6)),
+      ap length lines ∙ length-append before (job.line ∷ []) ∙ ap (λ (n : ℕ). n + 1) lined,
     )
 
 pub returns-in-Err-clause-run : goal.returns-in-Err-clause-run
@@ -86,6 +96,7 @@ returns-in-Err-clause-run g c =
     let same : c.try_job.new.all.items ≡ finished = ap (λ (d : DoneAs). d.items) c.in-Err.ensures.same in
     stopped workload c.args.options.now c.args.self.now _ c.requires.ready.none_begun c.style_for-style.ensures
     c.loop-at.invariant.0 (ap (λ v. v.items) c.loop-at.invariant.1)
+    (subst (AreLines workload.jobs places) (sym (ap (λ (d : DoneAs). d.lines) c.in-Err.ensures.same)) c.loop-at.invariant.6)
     (releases c.args.options.now) job c.in-Err.field-0
     (subst (λ (fs : List Finished). Stands workload c.style_for-style.result c.args.self.now.caller n places fs) (sym same) c.loop-at.invariant.4)
     (subst (λ (s : Style). HasLeft s workload.layout job n m c.in-Err.field-0) c.style_for-style.ensures c.in-Err.ensures.left)
@@ -94,4 +105,5 @@ returns-in-Err-clause-run g c =
 pub returns-clause-run : goal.returns-clause-run
 returns-clause-run g c =
     all_done c.args.workload.now c.args.options.now c.args.self.now _ c.requires.ready.none_begun
-    c.style_for-style.ensures c.loop-at.invariant.0 (ap (λ v. v.items) c.loop-at.invariant.1) c.loop-at.invariant.4 (search rules)
+    c.style_for-style.ensures c.loop-at.invariant.0 (ap (λ v. v.items) c.loop-at.invariant.1) c.loop-at.invariant.6
+    c.loop-at.invariant.4 (search rules)

@@ -1,6 +1,7 @@
 use Rattle.std.proofs.Common.{◌≡◌, ◌≤◌, length}
 use Rattle.dstm_tables.specs.Callers.{let_go}
 use Rattle.dstm_records.specs.Records.{KeepsReads}
+use Rattle.dstm_crew.specs.Workers.{AreLines}
 use Rattle.dstm_crew.proofs.Worked.{Stands}
 use Rattle.dstm_crew.proofs.worker.Worker.run.Given as goal
 
@@ -10,3 +11,4 @@ invariant-loop-at g l =
     × (length l.self.done.items ≡ l.at) × (length l.self.places.items ≤ l.self.done.room)
     × Stands l.workload l.style l.fn.self.caller l.self.caller l.self.places.items l.self.done.items
     × (KeepsReads l.options l.workload.version → let_go l.self.caller ≡ let_go l.fn.self.caller)
+    × AreLines l.workload.jobs l.self.places.items l.self.done.lines × (length l.self.done.lines ≡ l.at)
