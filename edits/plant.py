@@ -6,10 +6,11 @@
       --only WORD,WORD                  those of functions whose file or name has one of these words
       --shape SHAPE                     those of one shape: twice, more, result, argument, loop, early, option, constant
       --most N                          so many of each crate, evenly spread
-      --many N                          so many in one check, 24 where none are told
-      --seconds N                       a body is not judged where a check of it alone takes longer
+      --many N                          so many in one check, 40 where none are told
+      --seconds N                       a check has so many seconds for each of its bodies, and 120 for the libraries
+      --source                          writes which of them compile, and proves nothing
       --jobs N                          the jobs of each check
-      --behind FILE                     those that FILE, what an earlier run wrote, does not judge
+      --behind FILE                     those that FILE, what an earlier run or --source wrote, does not judge
 """
 
 import argparse
@@ -26,15 +27,34 @@ from pathlib import Path
 
 TOP = Path(__file__).resolve().parent.parent
 KINDS = ["clause", "open", "elsewhere", "proved", "no source", "not judged"]
-# The texts of the files that a body changes, and the function to check (none where many functions cite what it turns).
-# A body that can stand in a copy of its function, beside it, has this copy; it is checked together with others.
-Body = namedtuple("Body", "shape texts only note copy")
+# The texts of the files that a body changes, the functions to check (none where that may be all), and what stands where
+# instead of what, in code. A body that can stand in a copy of its function, beside it, has this copy; it is checked
+# together with others.
+Body = namedtuple("Body", "shape texts only note copy edit")
 # The file, where the copy stands in it, its text before and behind its name, that of the function as it is behind its
 # name, and the folder of its proof files.
 Copy = namedtuple("Copy", "file at head name tail same proofs")
-Function = namedtuple("Function", "name types returns begin end start named block")
-# The variants of each enum that hold nothing, and the fields that are truth values.
-ENUMS, BOOLS = {}, set()
+Function = namedtuple("Function", "name types returns begin end start named block file", defaults=[None])
+# The variants of each enum that hold nothing, and the fields that are truth values. The types of the parameters of all
+# functions of a name (none where it may be any type), and whether a receiver stands before them. What only computes.
+ENUMS, BOOLS, PARAMETERS, COMPUTES = {}, set(), {}, set()
+# Methods and functions of the libraries that only compute.
+PLAIN = {*"as_ref as_slice checked_add checked_mul checked_sub copied from get is_empty is_err is_none is_ok".split()}
+PLAIN |= {*"is_some iter len max min saturating_add saturating_sub wrapping_add wrapping_mul".split()}
+WORDS = {*"as else false for if in let match move mut ref return self true while".split()}
+CALL = re.compile(r"\b([a-z_]\w*)\s*(?:::<[^()]*>)?\(")
+IMPL = re.compile(r"(?m)^(?:pub )?(?:impl|trait)\b([^{;]*)\{")
+# What no borrow lets pass: a check of the source then ends before it comes to proofs.
+END = """
+struct PlantEnd {
+    of: u8,
+}
+
+fn plant_end(of: PlantEnd) -> (PlantEnd, PlantEnd) {
+    let one = of;
+    (one, of)
+}
+"""
 NAMES = re.compile(r"has no field|is not in scope|has no `|was not admitted|not checked|is no name")
 
 
@@ -64,6 +84,53 @@ def read_types(folder):
     for name, body in re.findall(r"(?s)\benum (\w+)[^{]*(\{.*?\n\})", said):
         ENUMS[name] = re.findall(r"(?m)^ +([A-Z]\w*),", body)
     BOOLS.update(re.findall(r"\b(\w+): bool,", said))
+
+
+def read_functions(folders):
+    """Reads what each function's parameters are, and which functions only compute."""
+    bodies = {}
+    PARAMETERS.clear()
+    COMPUTES.clear()
+    for file in (it for folder in folders for it in sorted(folder.glob("src/**/*.rt"))):
+        mask = masked(file.read_text(encoding="utf-8"))
+        blocks = [(it.end(), close_of(mask, it.end() - 1), it[1]) for it in IMPL.finditer(mask)]
+        aliases = "|".join(re.findall(r"\btype (\w+)", mask)) or "Self"
+        for it in re.finditer(r"\bfn (\w+)(<[^(]*>)?\(", mask):
+            generic = (it[2] or "") + "".join(of for start, end, of in blocks if start < it.start() < end)
+            generic = "|".join({"Self", "impl", "dyn", aliases, *re.findall(r"\b([A-Z]\w*)\s*[:,>]", generic)})
+            end = close_of(mask, it.end() - 1)
+            types = parts_of(mask, mask, it.end(), end - 1)
+            takes = bool(types) and re.fullmatch(r"(&\s*('\w+ )?)?(mut )?self", types[0]) is not None
+            types = [part.split(":", 1)[-1] for part in types[takes:]]
+            types = [None if re.search(rf"\b({generic})\b", said) else plain_type(said) for said in types]
+            PARAMETERS.setdefault(it[1], []).append((takes, types))
+            opens = re.compile(r"[{;]").search(mask, end)
+            body = mask[opens.start() : close_of(mask, opens.start())] if opens and opens[0] == "{" else None
+            said = body and (mask[it.start() : opens.start()] + body).split("(", 1)[1]
+            calls = None if not said or has_effect(said) else {*CALL.findall(said)}
+            bodies.setdefault(it[1], []).append(calls)
+    # What a function that only computes calls only computes, too.
+    COMPUTES.update(name for name, of in bodies.items() if None not in of)
+    while wrong := {it for it in COMPUTES if not set().union(*bodies[it]) <= COMPUTES | PLAIN | WORDS}:
+        COMPUTES.difference_update(wrong)
+    COMPUTES.update(PLAIN - {*bodies})
+
+
+def plain_type(said):
+    return re.sub(r"&\s*(mut )?|\s+", "", re.sub(r"'\w+ ?", "", said))
+
+
+def computes(said):
+    """Returns whether this code changes nothing that others see, and asks nobody."""
+    return not has_effect(said) and {*CALL.findall(said)} <= COMPUTES | PLAIN | WORDS
+
+
+def has_effect(said):
+    """Returns whether this code itself changes what others may see, or may call what does, as a closure."""
+    if re.search(r"&\s*(?:'\w+ )?mut\b|\bunsafe\b|\balloc\b|\b[a-z]\w*!|\|", said):
+        return True
+    # (what is put into a field, or behind a reference)
+    return re.search(r"(?:[*.]\s*\w+|\])\s*[-+*/|&^%]?=(?!=)", said) is not None
 
 
 def functions_of(mask, text):
@@ -152,17 +219,41 @@ def parts_of(text, mask, begin, end):
 
 # The shapes: each gives what is replaced, by where it begins and ends, and what stands there then
 
+def acts(said):
+    """Returns the call that a statement makes, or nothing. One that only computes means the same when made again."""
+    return "" if computes(masked(said)) else call_of(said)
+
+
+def is_known(f, mask, call, at):
+    """Returns whether each name that a call says may be known at this place of its function."""
+    names = {*re.findall(r"(?<![\w.:'])([a-z_]\w*)\b(?!\s*(?:\(|!|::|:(?!:)))", masked(call))}
+    names -= {*WORDS, *f.types, *PARAMETERS}
+    return all(re.search(rf"\b{it}\b", mask[f.begin : at]) for it in names)
+
+
+def is_row(mask, found):
+    """Returns whether these statements stand one right behind the other."""
+    return all(not mask[end:start].strip() for (_, end), (start, _) in zip(found, found[1:]))
+
+
 def twice(f, text, mask):
     for start, end in statements_of(mask, f.begin, f.end):
-        if call := call_of(text[start:end]):
+        if call := acts(text[start:end]):
             yield start, start, again(call)
 
 
 def more(f, text, mask):
     found = statements_of(mask, f.begin, f.end)
-    for start, end in found:
-        for at in {found[0][0], found[-1][0]} - {start} if call_of(text[start:end]) else []:
-            yield at, at, again(call_of(text[start:end]))
+    for n, (start, end) in enumerate(found):
+        call, places = acts(text[start:end]), {found[0][0], found[-1][0]} - {start}
+        # (what only computes may stand between: then this is the shape before)
+        if is_row(mask, found[: n + 1]) and all(computes(mask[a:b]) for a, b in found[:n]):
+            places -= {found[0][0]}
+        if is_row(mask, found[n:]) and all(computes(mask[a:b]) for a, b in found[n + 1 : -1]):
+            places -= {found[-1][0]}
+        for at in sorted(places) if call else []:
+            if is_known(f, mask, call, at):
+                yield at, at, again(call)
 
 
 def result(f, text, mask):
@@ -171,12 +262,12 @@ def result(f, text, mask):
         line = mask[: f.begin + it.end()].rsplit("\n", 1)[-1]
         if "=>" in rest or re.search(r"\blet Some|matches!", line) or re.match(r" *\|", rest):
             continue
-        unlike = [f"{it[2]}::{variant}" for variant in ENUMS.get(it[2], []) if variant != it[3]][:2]
+        unlike = [f"{it[2]}::{variant}" for variant in ENUMS.get(it[2], []) if variant != it[3]][:1]
         unlike = {"true": ["false"], "false": ["true"], "Some(": ["None"]}.get(it[0], unlike)
         for new in unlike:
             yield at, close_of(mask, at + 4) if new == "None" else at + len(it[0]), new
-    bound = re.findall(r"\blet (?:mut )?(\w+)", mask[f.begin : f.end])
     for it in re.finditer(r"\bOk\(([a-z]\w*)\)(?! *=>)", mask[f.begin : f.end]):
+        bound = re.findall(r"\blet (?:mut )?(\w+)", mask[f.begin : f.begin + it.start()])
         for new in [name for name in dict.fromkeys(bound) if name != it[1]][:2]:
             yield f.begin + it.start(1), f.begin + it.end(1), new
 
@@ -186,12 +277,19 @@ def argument(f, text, mask):
         opens = f.begin + it.end()
         end = close_of(mask, opens - 1) - 1
         parts = parts_of(text, mask, opens, end)
+        callee = re.search(r"\w+$", mask[: opens - 1])[0]
+        known = [[None] * (len(parts) - len(types)) + types for takes, types in PARAMETERS.get(callee, [])
+                 if len(types) <= len(parts) <= len(types) + takes]
         for n, (one, two) in enumerate(zip(parts, parts[1:])):
             # What is lent, and what is an allocator, seldom has the type of what stands beside it.
             kinds = {re.match(r"&mut|&|(self\.)?alloc$|rt$|", part)[0] for part in (one, two)}
             types = {f.types[part] for part in (one, two) if part in f.types}
             may_fit = one != two and len(kinds) == 1 and len(types) < 2
-            for new in [(two, one), (one, one), (two, two)] if may_fit else []:
+            # Nor does it compile where what is called takes two types there.
+            may_fit &= not known or any(None in of[n : n + 2] or of[n] == of[n + 1] for of in known)
+            # What is lent to be changed cannot be lent twice.
+            is_lent = any(it.startswith("&mut") for it in (*kinds, *types))
+            for new in [(two, one)] + [(one, one), (two, two)] * (not is_lent) if may_fit else []:
                 yield opens, end, ", ".join([*parts[:n], *new, *parts[n + 2 :]])
 
 
@@ -210,9 +308,14 @@ def early(f, text, mask):
     plain = {"()": ["()"], "": [""], "bool": ["true", "false"]}.get(held, ["0"] if re.match(r"u\w+$", held) else [])
     plain += [f"{held}::{variant}" for variant in ENUMS.get(held, [])[:2]]
     answers = {"Result": [f"Ok({it})" for it in plain], "Option": ["None"]}
-    for start, _ in statements_of(mask, f.begin, f.end):
-        for new in answers.get(f.returns[:6], plain):
-            yield start, start, f"return {new}; ".replace("return ;", "return;")
+    found = statements_of(mask, f.begin, f.end)
+    for n, (start, end) in enumerate(found):
+        # (behind what only computes this is the body before)
+        is_same = n and is_row(mask, found[n - 1 : n + 1]) and computes(mask[slice(*found[n - 1])])
+        for new in [] if is_same else answers.get(f.returns[:6], plain):
+            # (before what answers this anyway it means the same)
+            if text[start:end].strip() not in (new, f"return {new};"):
+                yield start, start, f"return {new}; ".replace("return ;", "return;")
 
 
 def option(f, text, mask):
@@ -227,7 +330,12 @@ def option(f, text, mask):
 def constants(crate, file, text, mask, place):
     """Returns bodies in which a number is turned: in the code alone, and in the definitions too where they say it."""
     specs = {it: it.read_text(encoding="utf-8") for it in sorted((crate / "specs").rglob("*.antt"))}
-    functions = functions_of(mask, text)
+    functions, users = functions_of(mask, text), {}
+    for other in sorted(it for it in (crate / "src").rglob("*.rt") if it.name != "tests.rt"):
+        other_text = other.read_text(encoding="utf-8")
+        for f in functions_of(masked(other_text), other_text):
+            for name in {*re.findall(r"\b[A-Z][A-Z_]+\b", other_text[f.start : f.end])}:
+                users.setdefault(name, []).append(f._replace(file=other))
     for it in re.finditer(r"(?<![\w.])(\d[\d_]*)(?![\w.]*\w)", mask):
         value, line = int(it[1].replace("_", "")), mask[: it.start()].rsplit("\n", 1)[-1]
         inside = [f for f in functions if f.begin <= it.start() < f.end]
@@ -238,9 +346,14 @@ def constants(crate, file, text, mask, place):
             turned = text[: it.start(1)] + str(new) + text[it.end(1) :]
             note = f"{place(it.start())} {line.strip()} {it[1]}: {new}"
             copy = copy_of(crate, file, inside[0], text, turned) if inside else None
-            yield Body("constant", {file: turned}, inside[0].name if inside else None, note, copy)
-            if both := {path: said.sub(str(new), was) for path, was in specs.items() if said.search(was)}:
-                yield Body("constant", {file: turned, **both}, None, f"{note}, and in specs/", None)
+            edit = (file, it.start(1), it.end(1), str(new), inside[0] if inside else None)
+            # (where no function names it, that may be said anywhere)
+            named = re.search(r"\bconst (\w+):", line)
+            only = [inside[0]._replace(file=file)] if inside else users.get(named[1])
+            yield Body("constant", {file: turned}, only, note, copy, edit)
+            both = {path: said.sub(str(new), was) for path, was in specs.items() if said.search(was)}
+            if both and not inside:
+                yield Body("constant", {file: turned, **both}, None, f"{note}, and in specs/", None, edit)
 
 
 def bodies_of(crate):
@@ -248,12 +361,13 @@ def bodies_of(crate):
     # (where two crates have a type of one name, this crate's own is meant)
     for folder in (TOP / "crates", crate):
         read_types(folder)
+    read_functions([TOP / "crates" / it for it in below(crate.name)])
     found, seen = [], set()
     for file in sorted(it for it in (crate / "src").rglob("*.rt") if it.name != "tests.rt"):
         text = file.read_text(encoding="utf-8")
         mask = masked(text)
         place = lambda at: f"{file.relative_to(crate)}:{text.count(chr(10), 0, at) + 1}"
-        for f in functions_of(mask, text):
+        for f in (it._replace(file=file) for it in functions_of(mask, text)):
             for shape in (twice, more, result, argument, loop, early, option):
                 for start, end, new in shape(f, text, mask):
                     turned = text[:start] + new + text[end:]
@@ -262,7 +376,8 @@ def bodies_of(crate):
                     if turned != text and turned not in seen:
                         seen.add(turned)
                         copy = copy_of(crate, file, f, text, turned)
-                        found.append(Body(shape.__name__, {file: turned}, f.name, note, copy))
+                        edit = (file, start, end, new, f)
+                        found.append(Body(shape.__name__, {file: turned}, [f], note, copy, edit))
         found += constants(crate, file, text, mask, place)
     return found
 
@@ -276,6 +391,17 @@ def below(name):
     return found
 
 
+def owner_of(block):
+    """Returns what a check calls an `impl` by: its type and its trait, without what stands for any type."""
+    said = re.sub(r"'\w+", "", block.strip().rstrip("{"))
+    said, generic = re.sub(r"^(pub )?(impl|trait)\b", "", said).split(" where ")[0], []
+    if said.startswith("<"):
+        ends = close_of(said.replace("<", "(").replace(">", ")"), 0)
+        said, generic = said[ends:], re.findall(r"\b([A-Z]\w*)\b", re.sub(r":[^,]*", "", said[:ends]))
+    parts = said.split(" for ")[::-1]
+    return "".join(it for part in parts for it in re.findall(r"\w+", part) if it not in (*generic, "mut", "dyn"))
+
+
 def parts_of_check(said, names, lines):
     """Returns what a check says of each of these functions: of what lies in its lines, and in its own proof files."""
     parts = {name: [] for name in names}
@@ -283,6 +409,8 @@ def parts_of_check(said, names, lines):
         note = re.match(r"note: (?:\./)?(src/\S+?):(\d+):", line)
         about = re.match(r"(?:\./)?proofs/\S*/\+?(\w+_plant\d+)/|fn \S+?::\+?(\w+_plant\d+)\b", line)
         name = lines.get((note[1], int(note[2]))) if note else about and (about[1] or about[2])
+        if not note and not about and (about := re.match(r"(?:\./)?proofs/(\S+)/\w+\.antt:|fn \w+?::(\S+?):", line)):
+            name = (about[1] or about[2].replace("::", "/")).replace("+", "")
         if name in parts:
             parts[name].append(line)
     return {name: "\n".join(part) for name, part in parts.items()}
@@ -291,20 +419,24 @@ def parts_of_check(said, names, lines):
 class Room:
     """A copy of the work tree, in which bodies are tried, with the libraries that were built in the work tree."""
 
-    def __init__(self, folder, name, jobs, seconds):
-        shutil.copytree(TOP / "crates", f"{folder}/crates", ignore=shutil.ignore_patterns("out", "must-fail"))
+    def __init__(self, folder, name, jobs, seconds, proves=True):
+        self.here, self.crate = TOP / "crates" / name, Path(folder) / "tried" / "crates" / name
+        # Where no library is built, a check tells what does not compile in some seconds, and ends.
+        self.source = Path(folder) / "source" / "crates" / name
+        for top in (self.crate.parents[1], self.source.parents[1]):
+            shutil.copytree(TOP / "crates", top / "crates", ignore=shutil.ignore_patterns("out", "must-fail"))
+            subprocess.run(["cp", TOP / "crates.txt", TOP / "HANDLES", top], check=True)
+            subprocess.run(["git", "init", "-q", top], check=True)
         for built in [*(f"crates/{it}/out/rlib" for it in below(name)), f"crates/{name}/out/incremental"]:
-            if (TOP / built).is_dir():
-                (there := Path(folder) / built).parent.mkdir(exist_ok=True)
+            if proves and (TOP / built).is_dir():
+                (there := self.crate.parents[1] / built).parent.mkdir(exist_ok=True)
                 # (rt tells by the times of files what it has to do again)
                 subprocess.run(["cp", "-a", "--reflink=auto", TOP / built, there], check=True)
-        subprocess.run(["cp", TOP / "crates.txt", TOP / "HANDLES", folder], check=True)
-        subprocess.run(["git", "init", "-q", folder], check=True)
-        self.here, self.crate = TOP / "crates" / name, Path(folder) / "crates" / name
         self.jobs, self.seconds, self.until = ["--jobs", str(jobs)] if jobs else [], seconds, None
+        self.names = []
 
-    def check(self, *words):
-        how = {"cwd": self.crate, "stdout": subprocess.PIPE, "stderr": subprocess.STDOUT, "encoding": "utf-8"}
+    def check(self, *words, folder=None):
+        how = {"cwd": folder or self.crate, "stdout": subprocess.PIPE, "stderr": subprocess.STDOUT, "encoding": "utf-8"}
         ran = subprocess.Popen(["rt", "check", *words, *self.jobs], **how, errors="replace", start_new_session=True)
         try:
             said = ran.communicate(timeout=max(1, self.until - time.monotonic()) if self.until else None)[0]
@@ -330,30 +462,98 @@ class Room:
     def there(self, path):
         return self.crate / path.relative_to(self.here)
 
+    def name_of(self, f):
+        """Returns what a check calls this function, from the module on, or nothing."""
+        module = re.sub(r"^(lib|main)$|/?\bmod$", "", f.file.relative_to(self.here / "src").with_suffix("").as_posix())
+        name = "/".join(it for it in (module, owner_of(f.block) if f.block else "", f.name) if it)
+        return name if name in self.names else None
+
     def restore(self):
         for part in [part for part in ("src", "specs", "proofs") if (self.here / part).is_dir()]:
             shutil.copytree(self.here / part, self.crate / part, dirs_exist_ok=True)
 
-    def verdicts(self, bodies, many):
+    def verdicts(self, bodies, many, is_told=False):
         """Gives each body with what became of it, and by which goals."""
+        # (a run that has told of one tells of all that do not compile before it tries others)
+        compile = bodies if is_told else self.compiled(bodies)
+        yield from ((it, "no source", "") for it in bodies if it not in compile)
         place = lambda it: it.copy and (it.copy.file, it.copy.at)
-        rights = {place(it): it._replace(copy=it.copy._replace(tail=it.copy.same)) for it in bodies if it.copy}
-        proved = {place(it) for it, kind, _ in self.by_batches([*rights.values()], many) if kind == "proved"}
-        copies = [it for it in bodies if place(it) in proved]
-        compile = self.compiled(copies)
-        yield from ((it, "no source", "") for it in copies if it not in compile)
+        has_answers = lambda it: it.copy.proofs and (it.copy.proofs / "Answers.antt").exists()
+        rights = {place(it): it._replace(copy=it.copy._replace(tail=it.copy.same)) for it in compile if it.copy}
+        # What is answered in proof files is looked at without the tactics: these do the same in a copy as in the place.
+        holds = self.by_batches([it for it in rights.values() if has_answers(it)], many, True)
+        sound = {place(it) for it, kind, why in holds if kind == "proved" or (kind, why) == ("not judged", "")}
+        proved = self.by_batches([it for it in rights.values() if not has_answers(it)], many)
+        sound |= {place(it) for it, kind, _ in proved if kind == "proved"}
+        copies = [it for it in compile if place(it) in sound]
         # The tactics take long where a goal is false, so answers in proof files are looked at without them first.
-        answered = [it for it in compile if it.copy.proofs and (it.copy.proofs / "Answers.antt").exists()]
-        for it, kind, why in self.by_batches(answered, many, True):
+        for it, kind, why in self.by_batches([it for it in copies if has_answers(it)], many, True):
             if kind == "clause":
-                compile.remove(it)
+                copies.remove(it)
                 yield it, kind, why
-        yield from self.by_batches(compile, many)
+        yield from self.by_batches(copies, many)
         # (where a copy of the right body is not proved, that of a wrong one shows nothing)
-        rest = [it for it in bodies if place(it) not in proved]
-        if rest and self.check()[0]:
-            sys.exit(f"edits/plant.py: {self.crate.name} is not proved as it stands")
-        yield from ((it, *self.alone(it)) for it in rest)
+        if rest := [it for it in compile if place(it) not in sound]:
+            status, said = self.check()
+            if status:
+                sys.exit(f"edits/plant.py: {self.crate.name} is not proved as it stands")
+            self.names = re.findall(r"(?m)^fn \w+?::(\S+): proved", said.replace("+", ""))
+            self.names = [it.replace("::", "/") for it in self.names]
+            yield from self.in_place(rest)
+
+    def in_place(self, bodies):
+        """Gives what became of bodies that stand in the place of the right ones: one a check of each function."""
+        rounds = []
+        for it in bodies:
+            if it.only and len(it.only) == 1 and (name := self.name_of(it.only[0])):
+                at = next((at for at, round in enumerate(rounds) if name not in round), len(rounds))
+                rounds += [{}] * (at == len(rounds))
+                rounds[at] = rounds[at] | {name: it}
+            else:
+                yield (it, *self.alone(it))
+        for round in rounds:
+            found = self.at_once(round) or {name: self.alone(it) for name, it in round.items()}
+            yield from ((it, *found[name]) for name, it in round.items())
+
+    def edited(self, bodies, crate):
+        """Writes these bodies in the place of the right ones. Gives the lines of each, by the place of its function."""
+        lines, edits = {}, [it.edit for it in bodies]
+        for file in {edit[0] for edit in edits}:
+            text = file.read_text(encoding="utf-8")
+            for _, start, end, new, f in sorted((it for it in edits if it[0] == file), key=lambda it: -it[1]):
+                text = text[:start] + new + text[end:]
+                # (those of functions behind it move by as many lines as it brings)
+                more = new.count("\n") - file.read_text(encoding="utf-8").count("\n", start, end)
+                lines = {(path, at + more * (path == file)): it for (path, at), it in lines.items()}
+                begins, ends = text.count("\n", 0, f.start) + 1, text.count("\n", 0, f.end + len(new) - end + start) + 1
+                lines.update(((file, at), (file, f.start)) for at in range(begins, ends + 1))
+            (crate / file.relative_to(self.here)).write_text(text, encoding="utf-8")
+        return {(file.relative_to(self.here).as_posix(), at): f for (file, at), f in lines.items()}
+
+    def at_once(self, round):
+        """Returns what became of these bodies, each of another function, or nothing if the check has no end."""
+        self.restore()
+        names = {(it.edit[0], it.edit[4].start): name for name, it in round.items()}
+        lines = {at: names[f] for at, f in self.edited(round.values(), self.crate).items()}
+        left, found = [*round], {}
+        self.until = self.seconds and time.monotonic() + 120 + self.seconds * len(left)
+        try:
+            for times in range(6):
+                said = self.check(*(word for name in left for word in ("--only", name.replace("/", "::"))))[1]
+                if not re.search(r"(?m)^(only=|rattle: no verdict)", said):
+                    return None
+                for name, part in parts_of_check(said, left, lines).items():
+                    if verdict := self.verdict(part, times):
+                        found[name] = verdict
+                        left.remove(name)
+                if not left:
+                    break
+            return {name: found.get(name, ("not judged", "its answers have no end")) for name in round}
+        except subprocess.TimeoutExpired:
+            return None
+        finally:
+            self.until = None
+            self.restore()
 
     def by_batches(self, bodies, many, is_quick=False):
         batches = [bodies[at : at + many] for at in range(0, len(bodies), many)]
@@ -367,15 +567,16 @@ class Room:
     def proofs_of(self, name, copy):
         return self.there(copy.proofs).with_name(copy.proofs.name.replace(copy.name, name))
 
-    def put(self, bodies):
+    def put(self, bodies, crate=None):
         """Puts these bodies beside their functions, as functions of other names. Gives names and the lines of each."""
-        self.restore()
+        if not crate:
+            self.restore()
         names, lines, texts = [f"{it.copy.name}_plant{n}" for n, it in enumerate(bodies)], {}, {}
-        for name, (_, _, _, _, copy) in zip(names, bodies):
+        for name, (_, _, _, _, copy, _) in zip(names, bodies):
             was, added = texts.get(copy.file) or (copy.file.read_text(encoding="utf-8"), [])
             tail = re.sub(rf"(?<![\w.:])((?:self\.|Self::)?){copy.name}\(", rf"\1{name}(", copy.tail)
             texts[copy.file] = was, [*added, (copy.at, name, copy.head + name + tail)]
-            if copy.proofs:
+            if copy.proofs and not crate:
                 at = ".".join(copy.proofs.relative_to(self.here).parts)
                 # What a function names itself by is in the place of its files, and in its goals where it calls itself.
                 own = copy.name if "+" in at else re.escape(at[: -len(copy.name)]) + copy.name + r"(?=\.)"
@@ -391,7 +592,7 @@ class Room:
                 text += said
                 for line in range(first, text.count("\n") + 2):
                     lines[file.relative_to(self.here).as_posix(), line] = name
-            self.there(file).write_text(text + was[behind:], encoding="utf-8")
+            ((crate or self.crate) / file.relative_to(self.here)).write_text(text + was[behind:], encoding="utf-8")
         return names, lines
 
     def take(self, names, bodies):
@@ -403,26 +604,44 @@ class Room:
 
     def compiled(self, bodies):
         """Returns those of these bodies that compile."""
-        while bodies:
-            names, lines = self.put(bodies)
-            said = self.check("--only", "")[1]
-            self.take(names, bodies)
-            if re.search(r"(?m)^only=", said):
-                break
-            wrong = re.findall(r"(?m)^(?:\./)?(src/\S+):(\d+):\d+: error", said)
-            wrong = {lines.get((file, int(at))) for file, at in wrong}
-            if not wrong & {*names}:
-                # (the error has no place in a body)
-                half = len(bodies) // 2
-                return [it for part in (bodies[:half], bodies[half:]) for it in self.compiled(part)] if half else []
-            bodies = [it for name, it in zip(names, bodies) if name not in wrong]
-        return bodies
+        wrong, copies = set(), [it for it in bodies if it.copy]
+        placed = [it for it in bodies if not it.copy and it.edit[4]]
+        # (a check tells some twenty errors, and those of borrows where there are no others)
+        while found := self.errors([it for it in copies if id(it) not in wrong]):
+            wrong |= found
+        while placed:
+            round = {(it.edit[0], it.edit[4].start): it for it in placed}
+            placed = [it for it in placed if it is not round[it.edit[0], it.edit[4].start]]
+            round = [*round.values()]
+            while found := self.errors([it for it in round if id(it) not in wrong], False):
+                wrong |= found
+        return [it for it in bodies if id(it) not in wrong]
+
+    def errors(self, bodies, is_beside=True):
+        """Returns which of these bodies a check tells an error of, before it comes to what is to be proved."""
+        if not bodies:
+            return set()
+        shutil.copytree(self.here / "src", self.source / "src", dirs_exist_ok=True)
+        if is_beside:
+            names, lines = self.put(bodies, self.source)
+            which = dict(zip(names, map(id, bodies)))
+            lines = {at: which[name] for at, name in lines.items()}
+        else:
+            which = {(it.edit[0], it.edit[4].start): id(it) for it in bodies}
+            lines = {at: which[f] for at, f in self.edited(bodies, self.source).items()}
+        root = next(it for it in (self.source / "src/lib.rt", self.source / "src/main.rt") if it.exists())
+        root.write_text(root.read_text(encoding="utf-8") + END, encoding="utf-8")
+        said = self.check("--only", "", folder=self.source)[1]
+        places = re.findall(r"(?m)^(?:\./)?(src/\S+):(\d+):\d+: error", said)
+        if not places:
+            sys.exit(f"edits/plant.py: {self.crate.name}: it is not told what compiles:\n{said[-2000:]}")
+        return {lines[file, int(at)] for file, at in places if (file, int(at)) in lines}
 
     def together(self, bodies, is_quick):
         """Returns what became of each of these bodies, which compile, or nothing if the check has no end."""
         names, lines = self.put([without_tactics(it) for it in bodies] if is_quick else bodies)
         left, found = [*names], {}
-        self.until = self.seconds and time.monotonic() + self.seconds
+        self.until = self.seconds and time.monotonic() + 120 + self.seconds * len(left)
         try:
             for times in range(6):
                 said = self.check(*(word for name in left for word in ("--only", name)))[1]
@@ -445,10 +664,12 @@ class Room:
         """Returns what became of a body, which stands in the place of the right one."""
         for file, text in body.texts.items():
             self.there(file).write_text(text, encoding="utf-8")
-        self.until = self.seconds and time.monotonic() + self.seconds
+        self.until = self.seconds and time.monotonic() + 120 + self.seconds
+        names = [self.name_of(it) for it in body.only or []]
+        names = [] if None in names else [it.replace("/", "::") for it in names]
         try:
             for times in range(6):
-                status, said = self.check(*(["--only", body.only] if body.only else []))
+                status, said = self.check(*(word for name in names for word in ("--only", name)))
                 if re.search(r"(?m)\berror\[[\w-]+\]|^(\./)?(src|specs)/\S+: error", said):
                     return "no source", ""
                 if status == 0 or re.search(r"(?m)^only=(\d+) proved=\1\b", said):
@@ -486,7 +707,8 @@ def main():
     words = argparse.ArgumentParser(description=__doc__, formatter_class=argparse.RawDescriptionHelpFormatter)
     words.add_argument("names", nargs="+", metavar="NAME")
     words.add_argument("--list", action="store_true")
-    numbers = {"--most": 1 << 30, "--many": 24, "--seconds": 0, "--jobs": 0}
+    words.add_argument("--source", action="store_true")
+    numbers = {"--most": 1 << 30, "--many": 40, "--seconds": 0, "--jobs": 0}
     for word, default in ({"--only": "", "--shape": "", "--behind": ""} | numbers).items():
         words.add_argument(word, type=type(default), default=default)
     given = words.parse_args()
@@ -504,8 +726,14 @@ def main():
             continue
         count.update(told[said(it)] for it in found if said(it) in told)
         with tempfile.TemporaryDirectory(prefix="plant-") as folder:
-            room = Room(folder, name, given.jobs, given.seconds)
-            for it, kind, why in room.verdicts([it for it in found if said(it) not in told], given.many):
+            room = Room(folder, name, given.jobs, given.seconds, not given.source)
+            if given.source:
+                compile = room.compiled(found)
+                print(*(f"no source: {said(it)}" for it in found if it not in compile), sep="\n")
+                continue
+            is_told = any(told.get(said(it)) == "no source" for it in found)
+            left = [it for it in found if said(it) not in told]
+            for it, kind, why in room.verdicts(left, given.many, is_told):
                 count[kind] += 1
                 print(f"{kind}: {said(it)}" + f"  ({why[:160]})" * bool(why), flush=True)
         print(f"| `{name}` | {len(found)} | " + " | ".join(str(count[kind]) for kind in KINDS) + " |", flush=True)
