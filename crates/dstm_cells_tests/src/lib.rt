@@ -7,6 +7,8 @@ mod cells;
 #[cfg(test)]
 mod maps;
 #[cfg(test)]
+mod plain;
+#[cfg(test)]
 mod queues;
 #[cfg(test)]
 mod replay;

@@ -1,5 +1,5 @@
 // A map, an ordered one and a set, by rows of calls, and beside the map of std. Each call is made on all in one transaction.
-use crate::cells::memory_by;
+use crate::plain::memory_by;
 use crate::queues::draw;
 use dstm_cells::{Failed, GaveUp, Manager, Me, Memory, Stop, Tx};
 use dstm_structures::{HashMap, Inserted, OrderedMap, OrderedSet, Placed};

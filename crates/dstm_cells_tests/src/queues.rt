@@ -1,5 +1,5 @@
 // A queue beside the one of std, and on threads.
-use crate::cells::memory_by;
+use crate::plain::memory_by;
 use dstm_cells::{Failed, GaveUp, Manager, Me, Memory};
 use dstm_structures::Queue;
 use std::alloc::Global;

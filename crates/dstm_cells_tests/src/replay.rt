@@ -1,6 +1,6 @@
 // Maps that four threads change, and the same calls made one after the other on the map of std.
-use crate::cells::memory_by;
 use crate::maps::{Answer, Call, Maps, call_all, expected, maps_of};
+use crate::plain::memory_by;
 use crate::queues::draw;
 use dstm_cells::{Cell, GaveUp, Manager, Me, Stop, Tx};
 use dstm_structures::OrderedMap;

@@ -1,40 +1,75 @@
 // Runs that hand back what their threads have answered.
-use dstm_cells::{Failed, GaveUp, Manager, Memory};
-use std::process::Abort;
+use crate::plain::{Adding, Part, atomically, cell_of, held, memory_by, run_each};
+use dstm_cells::{Cell, Failed, GaveUp, Manager, Me, Memory};
 use std::test::Fail;
 use std::thread::Threads;
 
-fn hands_back<R: Abort + Threads + Sync>(rt: &R, memory: Memory) -> Result<(), Fail> {
-    let mut memory = memory;
-    let next = memory.cell(0u64)?;
-    let tickets = memory.run_each(rt, 3, |me, number| {
-        let ticket = me.atomically(|tx| tx.update(next, |n| n.wrapping_add(1)))?;
-        Ok((number, ticket))
-    })?;
-    assert_eq!(rt; tickets.len(), 3);
+// A thread answers its number, and the one that it has drawn.
+#[derive(Drop)]
+struct Tickets {
+    next: Cell<u64>,
+}
+
+impl Part for Tickets {
+    type Answer = (usize, u64);
+
+    fn play(&self, me: &mut Me<'_>, number: usize) -> Result<(usize, u64), GaveUp> {
+        let cell = self.next;
+        let drawn = atomically(me, &Adding { cell, more: 1 })?;
+        Ok((number, drawn))
+    }
+}
+
+// Whether three threads stand in their order, each with another one of the first three tickets.
+fn are_three(tickets: &[(usize, u64)]) -> bool {
     let mut seen = [false, false, false];
     for (place, ticket) in tickets.iter().enumerate() {
-        assert_eq!(rt; ticket.0, place);
-        assert!(rt; ticket.1 < 3);
-        if ticket.1 < 3 {
-            seen[ticket.1 as usize] = true;
+        if ticket.0 != place || ticket.1 >= 3 {
+            return false;
         }
+        seen[ticket.1 as usize] = true;
     }
-    assert!(rt; seen == [true, true, true]);
-    assert_eq!(rt; memory.get(next)?, 3);
-    let failed = memory.run_each(rt, 3, |_, number| {
+    tickets.len() == 3 && seen == [true, true, true]
+}
+
+fn are_handed_back<R: Threads + Sync>(rt: &R, memory: &mut Memory) -> Result<bool, Failed> {
+    let next = cell_of(memory, 0u64)?;
+    let tickets = run_each(rt, memory, 3, &Tickets { next })?;
+    Ok(are_three(&tickets) && held(memory, next)? == 3)
+}
+
+#[test]
+fn a_run_hands_back_what_each_thread_answered(rt: HostRuntime) -> Result<(), Fail> {
+    assert!(rt; are_handed_back(&rt, &mut memory_by(rt.alloc(), None))?);
+    let by = Some(Manager::Polka);
+    assert!(rt; are_handed_back(&rt, &mut memory_by(rt.alloc(), by))?);
+    Ok(())
+}
+
+// The first thread answers, and the others give up.
+#[derive(Drop)]
+struct First;
+
+impl Part for First {
+    type Answer = usize;
+
+    fn play(&self, _me: &mut Me<'_>, number: usize) -> Result<usize, GaveUp> {
         if number == 0 {
             Ok(number)
         } else {
             Err(GaveUp::Idle)
         }
-    });
-    assert!(rt; matches!(failed, Err(Failed::GaveUp(GaveUp::Idle))));
-    Ok(())
+    }
+}
+
+fn fails<R: Threads + Sync>(rt: &R, memory: &mut Memory) -> bool {
+    let failed = run_each(rt, memory, 3, &First);
+    matches!(failed, Err(Failed::GaveUp(GaveUp::Idle)))
 }
 
 #[test]
-fn a_run_hands_back_what_each_thread_answered(rt: HostRuntime) -> Result<(), Fail> {
-    hands_back(&rt, Memory::new(rt.alloc()))?;
-    hands_back(&rt, Memory::with_manager(rt.alloc(), Manager::Polka))
+fn a_run_fails_where_a_thread_has_failed(rt: HostRuntime) {
+    assert!(rt; fails(&rt, &mut memory_by(rt.alloc(), None)));
+    let by = Some(Manager::Polka);
+    assert!(rt; fails(&rt, &mut memory_by(rt.alloc(), by)));
 }

@@ -1,5 +1,5 @@
 // An ordered set, and what maps have altogether.
-use crate::cells::memory_by;
+use crate::plain::memory_by;
 use dstm_cells::{Failed, GaveUp, Manager, Me, Memory};
 use dstm_structures::{HashMap, Inserted, OrderedMap, OrderedSet, Placed};
 use std::alloc::Global;
