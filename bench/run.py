@@ -100,7 +100,7 @@ def told_by_prototype(program, load):
 
 def told_by_phases(program, load):
     """What phases.so tells of dstm: its crew begins as the text that was read is given back, and ends as the first block is
-    that it has taken."""
+    that it has taken and given back."""
     told = load.folder / "phases"
     program.start(program.words, {"LD_PRELOAD": str(load.folder / "phases.so"), "PHASES": str(told)}, load.path)
     lines = [line.split() for line in told.read_text().splitlines()]
@@ -108,8 +108,9 @@ def told_by_phases(program, load):
     read = max(at for at, event in enumerate(events) if event[0] == "read")
     begin = next(at for at in range(read, len(events)) if events[at][0] == "free")
     crew = events[begin:]
-    first = next(size for name, _, _, size in crew if name == "malloc")
-    end = next(event for event in reversed(crew) if event[0] == "free" and is_block(event[3], first))
+    given = [event for event in crew if event[0] == "free"]
+    first = next(size for name, _, _, size in crew if name == "malloc" and any(is_block(it[3], size) for it in given))
+    end = next(event for event in reversed(given) if is_block(event[3], first))
     return tuple((end[at] - crew[0][at]) / 1000 for at in (1, 2))
 
 
