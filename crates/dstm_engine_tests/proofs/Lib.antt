@@ -1,2 +1,3 @@
 pub mod GuestSteps
 pub mod Jobs
+pub mod Progress

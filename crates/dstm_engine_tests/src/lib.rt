@@ -10,6 +10,7 @@ mod calls;
 mod contention;
 #[cfg(test)]
 mod guests;
+pub mod laws;
 #[cfg(test)]
 mod lists;
 #[cfg(test)]
