@@ -32,7 +32,8 @@ use std::thread::Threads;
 /// report, and writes whether it is lawful; `gen` writes a generated workload; `demo` runs a generated
 /// workload, checks the report, and writes how that went.
 ///
-/// The record of each round that was closed is put behind `rounds`. In round 0 each worker passes the gate.
+/// The records of the rounds that it has closed are put behind `rounds`, in their order; where memory runs out, those of the
+/// first ones. In round 0 each worker passes the gate, of which no clause speaks.
 pub fn dstm<R: Threads + Sync, S: Source, K: Sink, E: Sink, G: Gate + Sync>(
     rt: &R,
     alloc: Global,

@@ -21,9 +21,9 @@ use std::alloc::{AllocError, Global};
 use std::mem::replace;
 use std::thread::Threads;
 
-/// Runs a workload round by round, and adds the record of each round that was closed, also where memory runs out behind it.
-/// The report is lawful, the records that were added stand for it, and in each of their logs whatever an attempt has seen
-/// are values of one moment. Where memory runs out they are those of the first rounds, one behind the other.
+/// Runs a workload round by round, and adds the records of its rounds, also where memory runs out: then they are those of
+/// the first rounds, one behind the other. The report is lawful, the records that were added stand for it, and in each of
+/// their logs whatever an attempt has seen are values of one moment.
 pub fn run_crew<R: Threads + Sync, G: Gate + Sync>(
     rt: &R,
     alloc: Global,
