@@ -1,5 +1,5 @@
 -- Calls on a transaction, one after the other, of each map at which the attempt may have begun.
-use Rattle.std.proofs.Common.{◌≡◌, ◌∙◌, ℕ, ◌≤◌, List, ap, arith, length, slice_set, sym}
+use Rattle.std.proofs.Common.{◌≡◌, ◌∙◌, ℕ, ◌≤◌, List, ap, arith, length, slice_set, subst, sym}
 use Rattle.dstm_model.specs.declared.value.Val.{Val}
 use Rattle.dstm_model.specs.Map.{value_at}
 use Rattle.dstm_tables.specs.declared.tables.Caller.{Caller}
@@ -92,6 +92,11 @@ module _ {L : Type 0} {holds : L → List Val → Type 0} {size : ℕ} where
     does = λ there map may.
         same (seen k map) (seen n map) (room holds k map size there (done.narrows map may)) (done.does there map may);
   }
+
+  -- what was done, by what was answered
+  pub does-is : {A : Type 0} (E : A → List Val → List Val → Type 0) {a b : A} {k n : Caller L} → a ≡ b →
+      Does holds size (E a) k n → Does holds size (E b) k n
+  does-is E {k = k} {n = n} is done = subst (λ answer. Does holds size (E answer) k n) is done
 
   -- one call, and then a cell was looked up or set
   pub then-read : {T : Type 0} {E G : List Val → List Val → Type 0} {found : Val → T} {k m n : Caller L} {cell : ℕ}

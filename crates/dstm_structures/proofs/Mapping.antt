@@ -7,7 +7,7 @@ use Rattle.dstm_model.specs.declared.value.Val.{Val}
 use Rattle.dstm_model.specs.Map.{no_value, value_at}
 use Rattle.dstm_structures.specs.Circles.{behind}
 use Rattle.dstm_structures.specs.Places.{AreTaken, find, is_free, is_key}
-use Rattle.dstm_structures.specs.Maps.{Adds, Clears, ClearsAll, Empties, Extends, FreeAt, Inserts, InsertsAt, InsertsBy, Makes, NoneFree, Puts, Reaches, Seeks, SetsKey, Stores, Tells, TellsIf, at_place, end_of, home_in, homes, item_of, key_at, key_of, keys_in, outcome, place_in, reach_at, reach_of, slot_of, values_in}
+use Rattle.dstm_structures.specs.Maps.{Adds, Clears, ClearsAll, Empties, FreeAt, Frees, Inserts, InsertsAt, InsertsBy, Makes, NoneFree, Puts, Reaches, Seeks, SetsKey, SetsReach, Stores, Tells, TellsIf, at_place, end_of, home_in, homes, item_of, key_at, key_of, keys_in, outcome, place_in, reach_at, reach_of, slot_of, values_in}
 use Rattle.dstm_structures.specs.declared.cells.Slot.{Slot}
 use Rattle.dstm_structures.specs.declared.map.HashMap.{HashMap}
 use Rattle.dstm_structures.specs.declared.map.Placed.{Placed}
@@ -30,22 +30,13 @@ module _ {V : Type 0} (map : HashMap V) where
 
   -- ---- at how many places keys are looked for
 
-  reach_read : (h o : ℕ) (slot : Slot) (before after : List Val) → o ≡ first + 2 * h → Reads slot_of o slot before after →
-      slot.reach ≡ reach_of (value_at before (first + 2 * h))
-  reach_read h o slot before after at reads =
-      ap (λ (s : Slot). s.reach) reads.is ∙ ap (λ (x : ℕ). reach_of (value_at before x)) at
-
-  pub reach-few : (h o : ℕ) (slot : Slot) (reach : ℕ) (before after : List Val) → o ≡ first + 2 * h → slot.reach < n →
-      reach ≡ slot.reach → Reads slot_of o slot before after → Reaches map h reach before after
-  reach-few h o slot reach before after at few same reads =
-      let is : slot.reach ≡ reach_of (value_at before (first + 2 * h)) = reach_read h o slot before after at reads in
-      record { is = same ∙ grind (arith, is, few); same = reads.same }
-
-  pub reach-all : (h o : ℕ) (slot : Slot) (before after : List Val) → o ≡ first + 2 * h → n ≤ slot.reach →
-      Reads slot_of o slot before after → Reaches map h n before after
-  reach-all h o slot before after at many reads =
-      let is : slot.reach ≡ reach_of (value_at before (first + 2 * h)) = reach_read h o slot before after at reads in
-      record { is = grind (arith, is, many); same = reads.same }
+  pub reach-told : (h o : ℕ) (slot : Slot) (reach : ℕ) (before after : List Val) → o ≡ first + 2 * h →
+      reach ≡ cond (nat_lt slot.reach n) slot.reach n → Reads slot_of o slot before after → Reaches map h reach before after
+  reach-told h o slot reach before after at told reads = record {
+    is = told ∙ ap (λ (r : ℕ). cond (nat_lt r n) r n)
+        (ap (λ (s : Slot). s.reach) reads.is ∙ ap (λ (x : ℕ). reach_of (value_at before x)) at);
+    same = reads.same;
+  }
 
   -- a place's key was read
   key_read : (at o : ℕ) (held : Option ℕ) (before mid after : List Val) → o ≡ first + 2 * at → mid ≡ before →
@@ -61,13 +52,18 @@ module _ {V : Type 0} (map : HashMap V) where
     pub is : place_in first n before key ≡ find n (key_at map before) key (homes map key) passed (reach - passed)
     pub same : after ≡ before
 
-  pub seek-start : (key h reach : ℕ) (before after : List Val) → h ≡ homes map key → Reaches map h reach before after →
+  seek-start : (key h reach : ℕ) (before after : List Val) → h ≡ homes map key → Reaches map h reach before after →
       Seeking key reach 0 before after
   seek-start key h reach before after home r = record {
     is = ap (find n (key_at map before) key (homes map key) 0)
         (ap (reach_at map before) (sym home) ∙ sym r.is ∙ omega arith);
     same = r.same;
   }
+
+  pub seek-home : (key h reach o : ℕ) (slot : Slot) (before after : List Val) → h ≡ homes map key → o ≡ first + 2 * h →
+      reach ≡ cond (nat_lt slot.reach n) slot.reach n → Reads slot_of o slot before after → Seeking key reach 0 before after
+  seek-home key h reach o slot before after home at told reads =
+      seek-start key h reach before after home (reach-told h o slot reach before after at told reads)
 
   pub seek-none : (key reach passed : ℕ) (before after : List Val) → reach ≤ passed → Seeking key reach passed before after →
       Seeks map key None before after
@@ -115,12 +111,15 @@ module _ {V : Type 0} (map : HashMap V) where
     pub taken : AreTaken n (homes map) (key_at map before) h (reach_at map before h) passed
     pub same : after ≡ before
 
-  pub pass-start : (h reach : ℕ) (before after : List Val) → Reaches map h reach before after →
-      Passing h reach 0 before after
-  pass-start h reach before after r = record {
-    is = r.is;
+  -- where keys of that home are looked for at so many places
+  abbrev pub PassingBy : (h reach passed : ℕ) → List Val → List Val → Type 0
+  PassingBy h reach passed before after = reach ≡ reach_at map before h → Passing h reach passed before after
+
+  pub pass-start : (h reach : ℕ) (values : List Val) → PassingBy h reach 0 values values
+  pass-start h reach values is = record {
+    is = is;
     taken = λ j below. absurd (omega (arith, below));
-    same = r.same;
+    same = refl;
   }
 
   pub pass-none : (h reach passed : ℕ) (before after : List Val) → n ≤ passed → Passing h reach passed before after →
@@ -164,16 +163,13 @@ module _ {V : Type 0} (map : HashMap V) where
   -- ---- what is set for a key that is added
 
   -- the first cell of a place was set to what this tells, where it told that
-  module _ (at o p : ℕ) (slot now had : Slot) (before mid after : List Val) (size : end_of map ≤ length before) (here : at < n)
-      (o_is : o ≡ first + 2 * at) (p_is : p ≡ first + 2 * at) (reads : Reads slot_of o slot before mid)
-      (writes : Writes slot_of p had now mid after) where
-    slot-was : slot ≡ slot_of (value_at before (first + 2 * at))
-    slot-was = reads.is ∙ ap (λ (x : ℕ). slot_of (value_at before x)) o_is
+  module _ (at p : ℕ) (had now : Slot) (before after : List Val) (size : end_of map ≤ length before) (here : at < n)
+      (p_is : p ≡ first + 2 * at) (writes : Writes slot_of p had now before after) where
+    slot-was : had ≡ slot_of (value_at before (first + 2 * at))
+    slot-was = writes.was ∙ ap (λ (x : ℕ). slot_of (value_at before x)) p_is
 
     slot-whole : after ≡ slice_set before (first + 2 * at) writes.kept
-    slot-whole =
-        writes.after_is ∙ ap (λ (xs : List Val). slice_set xs p writes.kept) reads.same
-        ∙ ap (λ (x : ℕ). slice_set before x writes.kept) p_is
+    slot-whole = writes.after_is ∙ ap (λ (x : ℕ). slice_set before x writes.kept) p_is
 
     slot-is : slot_of (value_at after (first + 2 * at)) ≡ now
     slot-is =
@@ -186,7 +182,7 @@ module _ {V : Type 0} (map : HashMap V) where
         ap (λ (xs : List Val). value_at xs x) slot-whole
         ∙ get_or-set_other before (first + 2 * at) x writes.kept no_value apart
 
-    pub sets-key : (key : Option ℕ) → now.key ≡ key → now.reach ≡ slot.reach → SetsKey map at key before after
+    pub sets-key : (key : Option ℕ) → now.key ≡ key → now.reach ≡ had.reach → SetsKey map at key before after
     sets-key key key_is reach_is = record {
       is = ap (λ (s : Slot). s.key) slot-is ∙ key_is;
       reaches = λ h. by h (cases_eq h at);
@@ -203,39 +199,42 @@ module _ {V : Type 0} (map : HashMap V) where
             ap (λ (v : Val). cond (nat_lt (reach_of v) n) (reach_of v) n)
             (slot-others (first + 2 * h) (λ e. apart (omega (arith, e))))
 
-    pub extend-more : (far : ℕ) → far ≤ n → now.reach ≡ far → now.key ≡ slot.key → slot.reach < far →
-        Extends map at far before after
-    extend-more far most reach_is key_is less =
-        let top : reach_of (value_at after (first + 2 * at)) ≡ far = ap (λ (s : Slot). s.reach) slot-is ∙ reach_is in
-        let low : reach_of (value_at before (first + 2 * at)) < far = omega (arith, ap (λ (s : Slot). s.reach) slot-was, less) in
-        record {
-          is = ap (λ (x : ℕ). cond (nat_lt x n) x n) top ∙ all far most
-              ∙ grows (reach_of (value_at before (first + 2 * at))) low most;
-          key = ap (λ (s : Slot). s.key) slot-is ∙ key_is ∙ ap (λ (s : Slot). s.key) slot-was;
-          others = slot-others;
-        }
+    pub sets-reach : (far : ℕ) → far ≤ n → now.reach ≡ far → now.key ≡ had.key → SetsReach map at far before after
+    sets-reach far most reach_is key_is = record {
+      is = ap (λ (x : ℕ). cond (nat_lt x n) x n) (ap (λ (s : Slot). s.reach) slot-is ∙ reach_is) ∙ all far most;
+      key = ap (λ (s : Slot). s.key) slot-is ∙ key_is ∙ ap (λ (s : Slot). s.key) slot-was;
+      others = slot-others;
+    }
       where
         all : (a : ℕ) → a ≤ n → cond (nat_lt a n) a n ≡ a
         all a le = grind (arith, le)
 
-        grows : (a : ℕ) → a < far → far ≤ n →
-            far ≡ cond (nat_lt (cond (nat_lt a n) a n) far) far (cond (nat_lt a n) a n)
-        grows a lt le = grind (arith, lt, le)
+  -- keys of a home are looked for at so many places at least
+  pub record Extends (h far : ℕ) (before after : List Val) : Type 0 where
+    pub is : reach_at map after h ≡ cond (nat_lt (reach_at map before h) far) far (reach_at map before h)
+    pub key : key_at map after h ≡ key_at map before h
+    pub others : (o : ℕ) → (o ≡ first + 2 * h → ⊥) → value_at after o ≡ value_at before o
 
-  pub extend-none : (h o : ℕ) (slot : Slot) (far : ℕ) (before after : List Val) → o ≡ first + 2 * h → far ≤ n →
-      far ≤ slot.reach → Reads slot_of o slot before after → Extends map h far before after
-  extend-none h o slot far before after at most enough reads =
-      let is : slot.reach ≡ reach_of (value_at before (first + 2 * h)) = reach_read h o slot before after at reads in
-      record {
-        is = ap (λ (xs : List Val). reach_at map xs h) reads.same
-            ∙ stays (reach_of (value_at before (first + 2 * h))) (omega (arith, is, enough)) most;
-        key = ap (λ (xs : List Val). key_at map xs h) reads.same;
-        others = λ x apart. ap (λ (xs : List Val). value_at xs x) reads.same;
-      }
+  extend-more : (h far : ℕ) (before after : List Val) → reach_at map before h < far → SetsReach map h far before after →
+      Extends h far before after
+  extend-more h far before after less sets = record {
+    is = sets.is ∙ grows (reach_at map before h) less;
+    key = sets.key;
+    others = sets.others;
+  }
     where
-      stays : (a : ℕ) → far ≤ a → far ≤ n →
-          cond (nat_lt a n) a n ≡ cond (nat_lt (cond (nat_lt a n) a n) far) far (cond (nat_lt a n) a n)
-      stays a le most = grind (arith, le, most)
+      grows : (a : ℕ) → a < far → far ≡ cond (nat_lt a far) far a
+      grows a lt = grind (arith, lt)
+
+  extend-none : (h far : ℕ) (values : List Val) → far ≤ reach_at map values h → Extends h far values values
+  extend-none h far values enough = record {
+    is = stays (reach_at map values h) enough;
+    key = refl;
+    others = λ x apart. refl;
+  }
+    where
+      stays : (a : ℕ) → far ≤ a → a ≡ cond (nat_lt a far) far a
+      stays a le = grind (arith, le)
 
   -- ---- a key is taken out of its places
 
@@ -426,14 +425,18 @@ module _ {V : Type 0} (found : Val → V) (map : HashMap V) where
       by None full = full
       by (Some at) put = put.makes
 
-  pub inserts-none : (key h : ℕ) (value : V) (before after : List Val) → 0 < m → h ≡ home_in m key →
-      NoneFree map h before after → Inserts found map key value None before after
-  inserts-none key h value before after some home none absent = record {
+  -- no place was free for it
+  pub inserts-none : (key h reach : ℕ) (value : V) (before mid after : List Val) → 0 < m → h ≡ home_in m key →
+      Reaches map h reach before mid → Frees map h reach None mid after → Inserts found map key value None before after
+  inserts-none key h reach value before mid after some home reaches frees absent = record {
     was = ap (at_place (values_in found f before)) absent;
     full = λ at here. all at (distance m h at homed here);
     same = none.same;
   }
     where
+      none : NoneFree map h before after
+      none = subst (λ (xs : List Val). Frees map h reach None xs after) reaches.same frees reaches.is
+
       homed : h < m
       homed = subst (λ x. x < m) (sym home) (home-within m some key)
 
@@ -520,17 +523,46 @@ module _ {V : Type 0} (found : Val → V) (map : HashMap V) where
           kept x (λ same. omega (arith, same, high, place)) (λ same. omega (arith, same, high, place))
           (λ same. omega (arith, same, high, homed))
 
-  pub inserts-new : (key h passed at : ℕ) (value : V) (before mid near after : List Val) → 0 < m → h ≡ home_in m key →
-      passed < m → at ≡ behind m h passed → FreeAt map h passed before mid → Stores found map at key value mid near →
-      Extends map h (passed + 1) near after → Inserts found map key value (Some at) before after
-  inserts-new key h passed at value before mid near after some home few at_is free stored extends absent =
-      subst (λ (x : ℕ). InsertsAt found map key x value before after) (sym (at_is ∙ ap (λ (x : ℕ). behind m x passed) home))
-      (inserts-here key passed value before near after some few
-      (subst (λ (x : ℕ). FreeAt map x passed before before) home
-      (subst (λ (xs : List Val). FreeAt map h passed before xs) free.same free))
-      (subst (λ (x : ℕ). Stores found map x key value before near) (at_is ∙ ap (λ (x : ℕ). behind m x passed) home)
-      (subst (λ (xs : List Val). Stores found map at key value xs near) free.same stored))
-      (subst (λ (x : ℕ). Extends map x (passed + 1) near after) home extends) absent)
+  -- it was put into the first place that is free for keys of its home, which are looked for at so many places
+  pub record Storing (key h reach passed at : ℕ) (value : V) (before after : List Val) : Type 0 where
+    pub reaches : reach ≡ reach_at map before h
+    pub free : FreeAt map h passed before before
+    pub stored : Stores found map at key value before after
+
+  pub storing : (key h reach passed at : ℕ) (value : V) (before mid near after : List Val) → Reaches map h reach before mid →
+      Frees map h reach (Some passed) mid near → Stores found map at key value near after →
+      Storing key h reach passed at value before after
+  storing key h reach passed at value before mid near after reaches frees stored =
+      let free : FreeAt map h passed before near =
+      subst (λ (xs : List Val). Frees map h reach (Some passed) xs near) reaches.same frees reaches.is in
+      record {
+        reaches = reaches.is;
+        free = subst (λ (xs : List Val). FreeAt map h passed before xs) free.same free;
+        stored = subst (λ (xs : List Val). Stores found map at key value xs after) free.same stored;
+      }
+
+  module _ (key h reach passed at : ℕ) (value : V) (before near after : List Val) (some : 0 < m) (home : h ≡ home_in m key)
+      (few : passed < m) (at_is : at ≡ behind m h passed) (s : Storing key h reach passed at value before near) where
+    inserts-new : Extends map h (passed + 1) near after → Inserts found map key value (Some at) before after
+    inserts-new extends absent =
+        subst (λ (x : ℕ). InsertsAt found map key x value before after) (sym (at_is ∙ ap (λ (x : ℕ). behind m x passed) home))
+        (inserts-here key passed value before near after some few
+        (subst (λ (x : ℕ). FreeAt map x passed before before) home s.free)
+        (subst (λ (x : ℕ). Stores found map x key value before near) (at_is ∙ ap (λ (x : ℕ). behind m x passed) home)
+        s.stored) (subst (λ (x : ℕ). Extends map x (passed + 1) near after) home extends) absent)
+
+    -- keys of its home are looked for there
+    pub inserts-within : passed < reach → after ≡ near → Inserts found map key value (Some at) before after
+    inserts-within less same =
+        inserts-new
+        (subst (λ (xs : List Val). Extends map h (passed + 1) near xs) (sym same)
+        (extend-none map h (passed + 1) near (omega (arith, less, s.reaches, s.stored.reaches h))))
+
+    -- they are looked for there now
+    pub inserts-beyond : reach ≤ passed → SetsReach map h (passed + 1) near after →
+        Inserts found map key value (Some at) before after
+    inserts-beyond most sets =
+        inserts-new (extend-more map h (passed + 1) near after (omega (arith, most, s.reaches, s.stored.reaches h)) sets)
 
   -- a key is taken out
   takes-here : (key : ℕ) (had : V) (before after : List Val) → 0 < m → item_of found map before key ≡ Some had →

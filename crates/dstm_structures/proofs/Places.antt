@@ -1,12 +1,15 @@
 -- Keys that are looked for in their places.
 use Rattle.std.proofs.Common.{◌≡◌, ◌∙◌, ℕ, zero, suc, ◌+◌, ◌-◌, ◌<◌, ◌≤◌, Bool, true, false, ap, arith, cond, refl, sym, subst, ◌⊎◌, inl, inr, nat_lt, eq-eqb}
 use Rattle.std.proofs.lemmas.Bool.{cases_eq}
-use Rattle.std.specs.Prelude.{Option, None, Some}
+use Rattle.std.specs.Prelude.{IfSome, Option, None, Some}
 use Rattle.dstm_structures.specs.Circles.{behind}
 use Rattle.dstm_structures.specs.Places.{AreTaken, find, is_free, is_key}
 
 pub some_is : {T : Type 0} (a b : T) → Some a ≡ Some b → a ≡ b
 some_is a b same = cc
+
+pub of_some : {T : Type 0} (P : T → Type 0) {o : Option T} {x : T} → o ≡ Some x → IfSome o P → P x
+of_some P is held = subst (λ o. IfSome o P) is held
 
 pub none_not : {T : Type 0} (a : T) → None ≡ Some a → ⊥
 none_not a same = cc

@@ -21,3 +21,7 @@ module _ {L : Type 0} where
     pub record Does (objects : ℕ) (effect : List Val → List Val → Type 0) (old new : Caller L) : Type 0 where
       pub narrows : (map : List Val) → MayBegin holds new map → MayBegin holds old map
       pub does : objects ≤ objects_of old → (map : List Val) → MayBegin holds new map → effect (seen old map) (seen new map)
+
+    -- where there were values at which the attempt may have begun, there are still
+    abbrev pub StillMay : Caller L → Caller L → Type 0
+    StillMay old new = ((map : List Val) × MayBegin holds old map) → (map : List Val) × MayBegin holds new map

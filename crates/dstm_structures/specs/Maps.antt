@@ -92,15 +92,19 @@ module _ {V : Type 0} (map : HashMap V) where
     pub taken : AreTaken map.cells.capacity homes (key_at before) home (reach_at before home) map.cells.capacity
     pub same : after ≡ before
 
-  abbrev pub Frees : (home : ℕ) → Option ℕ → List Val → List Val → Type 0
-  Frees home None before after = NoneFree home before after
-  Frees home (Some passed) before after = FreeAt home passed before after
+  abbrev pub FreesBy : (home : ℕ) → Option ℕ → List Val → List Val → Type 0
+  FreesBy home None before after = NoneFree home before after
+  FreesBy home (Some passed) before after = FreeAt home passed before after
+
+  -- a place that is free was looked for, where keys of its home are looked for at so many places
+  abbrev pub Frees : (home reach : ℕ) → Option ℕ → List Val → List Val → Type 0
+  Frees home reach free before after = reach ≡ reach_at before home → FreesBy home free before after
 
   -- ---- what is set
 
-  -- keys of this home are looked for at so many places at least
-  pub record Extends (home far : ℕ) (before after : List Val) : Type 0 where
-    pub is : reach_at after home ≡ (if nat_lt (reach_at before home) far then far else reach_at before home)
+  -- keys of this home are looked for at so many places now
+  pub record SetsReach (home far : ℕ) (before after : List Val) : Type 0 where
+    pub is : reach_at after home ≡ far
     pub key : key_at after home ≡ key_at before home
     pub others : (o : ℕ) → o ≢ map.cells.first + 2 * home → value_at after o ≡ value_at before o
 

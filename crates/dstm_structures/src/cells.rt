@@ -25,7 +25,7 @@ pub struct Rows {
 }
 
 impl Rows {
-    // The cell that tells the key of a place.
+    // The cell that tells the key of a place, and how far others are looked for from it on.
     pub(crate) fn slot_at(self, at: u32) -> Cell<Slot>
         requires { at < self.capacity }
         ensures { result.object ≡ self.first + 2 * at }
@@ -42,12 +42,9 @@ pub struct Slot {
 }
 
 impl Word for Slot {
-    ghost use Rattle.std.specs.Prelude.{◌/◌, ◌%◌, ◌==◌, if◌then◌else◌, Some, None};
+    ghost use Rattle.dstm_structures.specs.Maps.{slot_of};
 
-    ghost found = { λ val. record {
-      reach = val.high / 4294967296;
-      key = if val.high % 4294967296 == 1 then Some val.low else None;
-    } };
+    ghost found = { slot_of };
 
     fn to_val(self) -> Val {
         let high = 4_294_967_296 * u64::from(self.reach);

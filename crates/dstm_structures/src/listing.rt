@@ -1,7 +1,8 @@
 // What a map or a set has altogether: its items, and how many there are.
-ghost use Rattle.std.specs.Prelude.{◌≡◌, ◌<◌, ◌≤◌, false, true, if◌then◌else◌, is_some, IfErr, IfOk};
+ghost use Rattle.std.specs.Prelude.{◌≡◌, ◌<◌, ◌≤◌, List, false, true, if◌then◌else◌, is_some, IfErr, IfOk, OnOk};
 ghost use Rattle.dstm_cells.specs.Alternatives.{Notes, noting};
-ghost use Rattle.dstm_cells.specs.UnderWay.{Keeps};
+ghost use Rattle.dstm_cells.specs.UnderWay.{Keeps, MayBegin};
+ghost use Rattle.dstm_model.specs.declared.value.Val.{Val};
 ghost use Rattle.dstm_structures.specs.Effects.{Does, Stops};
 ghost use Rattle.dstm_structures.specs.Items.{Counts, Lists, ListsInOrder, Stands, if_above};
 ghost use Rattle.dstm_structures.specs.Maps.{end_of};
@@ -23,6 +24,7 @@ impl<V: Word> HashMap<V> {
         ensures stops { IfErr result (λ stop. Stops (end_of self) false tx.old.attempts.caller stop.why) }
         ensures counts { IfOk result (λ count. Does L.holds (end_of self) (Counts V.found self count)
             tx.old.attempts.caller tx.new.attempts.caller) }
+        ensures may { OnOk result ((map : List Val) × MayBegin L.holds tx.new.attempts.caller map) }
     {
         let mut count: u32 = 0;
         for at in 0..self.cells.capacity {
@@ -39,6 +41,7 @@ impl<V: Word> HashMap<V> {
         ensures stops { IfErr result (λ stop. Stops (end_of self) true tx.old.attempts.caller stop.why) }
         ensures lists { IfOk result (λ items. Does L.holds (end_of self) (Lists V.found self items.items)
             tx.old.attempts.caller tx.new.attempts.caller) }
+        ensures may { OnOk result ((map : List Val) × MayBegin L.holds tx.new.attempts.caller map) }
     {
         let items = self.items_by(tx, alloc)?;
         Ok(items)
@@ -52,6 +55,7 @@ impl<V: Word> HashMap<V> {
         ensures stops { IfErr result (λ stop. Stops (end_of self) false tx.old.attempts.caller stop.why) }
         ensures stands { IfOk result (λ key. Does L.holds (end_of self) (Stands self at key)
             tx.old.attempts.caller tx.new.attempts.caller) }
+        ensures may { OnOk result ((map : List Val) × MayBegin L.holds tx.new.attempts.caller map) }
     {
         let key = self.stands_by(tx, at)?;
         Ok(key)
@@ -66,6 +70,7 @@ impl<V: Word> OrderedMap<V> {
         ensures stops { IfErr result (λ stop. Stops (end_of self.map) false tx.old.attempts.caller stop.why) }
         ensures counts { IfOk result (λ count. Does L.holds (end_of self.map) (Counts V.found self.map count)
             tx.old.attempts.caller tx.new.attempts.caller) }
+        ensures may { OnOk result ((map : List Val) × MayBegin L.holds tx.new.attempts.caller map) }
     {
         self.map.len(tx)
     }
@@ -77,6 +82,7 @@ impl<V: Word> OrderedMap<V> {
         ensures stops { IfErr result (λ stop. Stops (order_end self.map.cells) true tx.old.attempts.caller stop.why) }
         ensures lists { IfOk result (λ items. Does L.holds (order_end self.map.cells) (ListsInOrder V.found self items.items)
             tx.old.attempts.caller tx.new.attempts.caller) }
+        ensures may { OnOk result ((map : List Val) × MayBegin L.holds tx.new.attempts.caller map) }
     {
         let mut items = Vec::new(alloc);
         let mut next = self.first(tx)?;
@@ -97,6 +103,7 @@ impl OrderedSet {
         ensures stops { IfErr result (λ stop. Stops (end_of self.map.map) false tx.old.attempts.caller stop.why) }
         ensures counts { IfOk result (λ count. Does L.holds (end_of self.map.map) (sets.Counts self count)
             tx.old.attempts.caller tx.new.attempts.caller) }
+        ensures may { OnOk result ((map : List Val) × MayBegin L.holds tx.new.attempts.caller map) }
     {
         let count = self.map.len(tx)?;
         Ok(count)

@@ -3,8 +3,8 @@ ghost use Rattle.std.specs.Prelude.{◌≡◌, ◌+◌, ◌*◌, ◌<◌, ◌≤
 ghost use Rattle.dstm_cells.specs.Alternatives.{Notes, noting};
 ghost use Rattle.dstm_cells.specs.UnderWay.{Keeps, MayBegin};
 ghost use Rattle.dstm_model.specs.declared.value.Val.{Val};
-ghost use Rattle.dstm_structures.specs.Effects.{Does, Stops};
-ghost use Rattle.dstm_structures.specs.Maps.{Adds, ClearsAll, Empties, Extends, Frees, Inserts, Puts, Reaches, Removes, Seeks, SetsKey, Stores, Tells, TellsIf, end_of, home_in, outcome};
+ghost use Rattle.dstm_structures.specs.Effects.{Does, StillMay, Stops};
+ghost use Rattle.dstm_structures.specs.Maps.{Adds, ClearsAll, Empties, Frees, Inserts, Puts, Reaches, Removes, Seeks, SetsKey, SetsReach, Stores, Tells, TellsIf, end_of, home_in, outcome};
 ghost use Rattle.dstm_structures.specs.Places.{is_free, is_key};
 
 use crate::cells::{Rows, Slot, behind, cell, number};
@@ -161,28 +161,31 @@ impl<V: Word> HashMap<V> {
         ensures may { OnOk result ((map : List Val) × MayBegin L.holds tx.new.attempts.caller map) }
     {
         let home = self.home(key);
-        let free = self.free(tx, home)?;
+        let reach = self.reach(tx, home)?;
+        let free = self.free(tx, home, reach)?;
         let Some(passed) = free else {
             return Ok(None);
         };
         let at = behind(self.cells.capacity, home, passed);
         self.store(tx, at, key, value)?;
-        self.extend(tx, home, passed + 1)?;
+        if passed < reach {
+            return Ok(Some(at));
+        }
+        self.set_reach(tx, home, passed + 1)?;
         Ok(Some(at))
     }
 
-    // How far behind a home the first place is that is free for keys of this home.
-    fn free<L: Law>(self, tx: &mut Tx<'_, L>, home: u32) -> Result<Option<u32>, Stop>
+    // How far behind a home the first place is that is free for its keys, which are looked for at so many places.
+    fn free<L: Law>(self, tx: &mut Tx<'_, L>, home: u32, reach: u32) -> Result<Option<u32>, Stop>
         requires { home < self.cells.capacity }
         ensures keeps { Keeps tx.old.attempts.caller tx.new.attempts.caller }
         ensures notes { Notes L.holds (noting tx.old) (noting tx.new) }
         ensures stops { IfErr result (λ stop. Stops (end_of self) false tx.old.attempts.caller stop.why) }
         ensures within { IfOk result (λ free. IfSome free (λ passed. passed < self.cells.capacity)) }
-        ensures frees { IfOk result (λ free. Does L.holds (end_of self) (Frees self home free)
+        ensures frees { IfOk result (λ free. Does L.holds (end_of self) (Frees self home reach free)
             tx.old.attempts.caller tx.new.attempts.caller) }
-        ensures may { OnOk result ((map : List Val) × MayBegin L.holds tx.new.attempts.caller map) }
+        ensures may { OnOk result (StillMay L.holds tx.old.attempts.caller tx.new.attempts.caller) }
     {
-        let reach = self.reach(tx, home)?;
         for passed in 0..self.cells.capacity {
             let at = behind(self.cells.capacity, home, passed);
             let slot = tx.get(self.cells.slot_at(at))?;
@@ -218,27 +221,22 @@ impl<V: Word> HashMap<V> {
             tx.old.attempts.caller tx.new.attempts.caller) }
         ensures may { OnOk result ((map : List Val) × MayBegin L.holds tx.new.attempts.caller map) }
     {
-        let slot = tx.get(self.cells.slot_at(at))?;
-        tx.set(self.cells.slot_at(at), Slot { key, ..slot })?;
+        let _before = tx.update(self.cells.slot_at(at), |slot| Slot { key, ..slot })?;
         Ok(())
     }
 
-    // Keys of this home are looked for at so many places at least.
-    fn extend<L: Law>(self, tx: &mut Tx<'_, L>, home: u32, far: u32) -> Result<(), Stop>
+    // Keys of this home are looked for at so many places.
+    fn set_reach<L: Law>(self, tx: &mut Tx<'_, L>, home: u32, far: u32) -> Result<(), Stop>
         requires home { home < self.cells.capacity }
         requires far { far ≤ self.cells.capacity }
         ensures keeps { Keeps tx.old.attempts.caller tx.new.attempts.caller }
         ensures notes { Notes L.holds (noting tx.old) (noting tx.new) }
         ensures stops { IfErr result (λ stop. Stops (end_of self) tx.old.notes tx.old.attempts.caller stop.why) }
-        ensures extends { OnOk result (Does L.holds (end_of self) (Extends self home far)
+        ensures sets { OnOk result (Does L.holds (end_of self) (SetsReach self home far)
             tx.old.attempts.caller tx.new.attempts.caller) }
         ensures may { OnOk result ((map : List Val) × MayBegin L.holds tx.new.attempts.caller map) }
     {
-        let slot = tx.get(self.cells.slot_at(home))?;
-        if slot.reach >= far {
-            return Ok(());
-        }
-        tx.set(self.cells.slot_at(home), Slot { reach: far, ..slot })?;
+        let _before = tx.update(self.cells.slot_at(home), |slot| Slot { reach: far, ..slot })?;
         Ok(())
     }
 

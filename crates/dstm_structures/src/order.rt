@@ -1,9 +1,10 @@
 // The order of a map's keys: a trie of their bits, in cells of its own. Its tips are places of the map, and each fork stands in
 // a cell and parts the keys below it by one bit.
-ghost use Rattle.std.specs.Prelude.{◌≡◌, ◌+◌, ◌*◌, ◌<◌, ◌≤◌, false, if◌then◌else◌, IfErr, IfOk, IfSome};
+ghost use Rattle.std.specs.Prelude.{◌≡◌, ◌+◌, ◌*◌, ◌<◌, ◌≤◌, List, false, if◌then◌else◌, IfErr, IfOk, IfSome, OnOk};
 ghost use Rattle.dstm_cells.specs.Alternatives.{Notes, noting};
-ghost use Rattle.dstm_cells.specs.UnderWay.{Keeps};
-ghost use Rattle.dstm_structures.specs.Effects.{Does, Stops};
+ghost use Rattle.dstm_cells.specs.UnderWay.{Keeps, MayBegin};
+ghost use Rattle.dstm_model.specs.declared.value.Val.{Val};
+ghost use Rattle.dstm_structures.specs.Effects.{Does, StillMay, Stops};
 ghost use Rattle.dstm_structures.specs.Orders.{Ends, EndsAll, Follows, FollowsAll, IsInside, is_above, left_in, level_in, link_in, order_end, right_in};
 
 use crate::cells::{Rows, cell};
@@ -98,6 +99,7 @@ impl Order {
         ensures within { IfOk result (λ place. IfSome place (λ at. at < self.cells.capacity)) }
         ensures ends { IfOk result (λ place. Does L.holds (order_end self.cells) (EndsAll self.cells greatest place)
             tx.old.attempts.caller tx.new.attempts.caller) }
+        ensures may { OnOk result ((map : List Val) × MayBegin L.holds tx.new.attempts.caller map) }
     {
         let root = tx.get(self.root_at())?;
         let place = self.edge(tx, root, 64, greatest)?;
@@ -112,6 +114,7 @@ impl Order {
         ensures within { IfOk result (λ place. IfSome place (λ at. at < self.cells.capacity)) }
         ensures follows { IfOk result (λ place. Does L.holds (order_end self.cells) (FollowsAll self.cells key place)
             tx.old.attempts.caller tx.new.attempts.caller) }
+        ensures may { OnOk result ((map : List Val) × MayBegin L.holds tx.new.attempts.caller map) }
     {
         let root = tx.get(self.root_at())?;
         let place = self.above(tx, root, 64, key)?;
@@ -133,6 +136,7 @@ impl Order {
         ensures within { IfOk result (λ place. IfSome place (λ at. at < self.cells.capacity)) }
         ensures ends { IfOk result (λ place. Does L.holds (order_end self.cells) (Ends self.cells greatest link under place)
             tx.old.attempts.caller tx.new.attempts.caller) }
+        ensures may { OnOk result (StillMay L.holds tx.old.attempts.caller tx.new.attempts.caller) }
     {
         match self.link(link) {
             Link::Nothing => Ok(None),
@@ -163,6 +167,7 @@ impl Order {
         ensures within { IfOk result (λ place. IfSome place (λ at. at < self.cells.capacity)) }
         ensures follows { IfOk result (λ place. Does L.holds (order_end self.cells) (Follows self.cells key link under place)
             tx.old.attempts.caller tx.new.attempts.caller) }
+        ensures may { OnOk result (StillMay L.holds tx.old.attempts.caller tx.new.attempts.caller) }
     {
         match self.link(link) {
             Link::Nothing => Ok(None),

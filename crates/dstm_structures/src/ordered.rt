@@ -3,7 +3,7 @@ ghost use Rattle.std.specs.Prelude.{◌≡◌, ◌+◌, ◌*◌, ◌<◌, ◌≤
 ghost use Rattle.dstm_cells.specs.Alternatives.{Notes, noting};
 ghost use Rattle.dstm_cells.specs.UnderWay.{Keeps, MayBegin};
 ghost use Rattle.dstm_model.specs.declared.value.Val.{Val};
-ghost use Rattle.dstm_structures.specs.Effects.{Does, Stops};
+ghost use Rattle.dstm_structures.specs.Effects.{Does, StillMay, Stops};
 ghost use Rattle.dstm_structures.specs.Maps.{Tells, TellsIf, end_of};
 ghost use Rattle.dstm_structures.specs.Ordered.{Adding, Adds, Looks, Pops, Puts, Removes, Takes, TellsAbove, TellsEnd, TellsFirst, TellsLast};
 ghost use Rattle.dstm_structures.specs.Orders.{order_end};
@@ -86,6 +86,7 @@ impl<V: Word> OrderedMap<V> {
         ensures stops { IfErr result (λ stop. Stops (order_end self.map.cells) tx.old.notes tx.old.attempts.caller stop.why) }
         ensures puts { IfOk result (λ placed. Does L.holds (order_end self.map.cells) (Puts V.found self key value placed)
             tx.old.attempts.caller tx.new.attempts.caller) }
+        ensures may { OnOk result ((map : List Val) × MayBegin L.holds tx.new.attempts.caller map) }
     {
         let found = self.map.find(tx, key)?;
         let Some(at) = found else {
@@ -103,6 +104,7 @@ impl<V: Word> OrderedMap<V> {
         ensures stops { IfErr result (λ stop. Stops (order_end self.map.cells) tx.old.notes tx.old.attempts.caller stop.why) }
         ensures removes { IfOk result (λ removed. Does L.holds (order_end self.map.cells) (Removes V.found self key removed)
             tx.old.attempts.caller tx.new.attempts.caller) }
+        ensures may { OnOk result ((map : List Val) × MayBegin L.holds tx.new.attempts.caller map) }
     {
         let found = self.map.find(tx, key)?;
         let Some(at) = found else {
@@ -120,6 +122,7 @@ impl<V: Word> OrderedMap<V> {
         ensures stops { IfErr result (λ stop. Stops (order_end self.map.cells) false tx.old.attempts.caller stop.why) }
         ensures tells { IfOk result (λ answer. Does L.holds (order_end self.map.cells) (TellsFirst V.found self answer)
             tx.old.attempts.caller tx.new.attempts.caller) }
+        ensures may { OnOk result ((map : List Val) × MayBegin L.holds tx.new.attempts.caller map) }
     {
         self.end(tx, false)
     }
@@ -131,6 +134,7 @@ impl<V: Word> OrderedMap<V> {
         ensures stops { IfErr result (λ stop. Stops (order_end self.map.cells) false tx.old.attempts.caller stop.why) }
         ensures tells { IfOk result (λ answer. Does L.holds (order_end self.map.cells) (TellsLast V.found self answer)
             tx.old.attempts.caller tx.new.attempts.caller) }
+        ensures may { OnOk result ((map : List Val) × MayBegin L.holds tx.new.attempts.caller map) }
     {
         self.end(tx, true)
     }
@@ -142,6 +146,7 @@ impl<V: Word> OrderedMap<V> {
         ensures stops { IfErr result (λ stop. Stops (order_end self.map.cells) false tx.old.attempts.caller stop.why) }
         ensures tells { IfOk result (λ answer. Does L.holds (order_end self.map.cells) (TellsAbove V.found self key answer)
             tx.old.attempts.caller tx.new.attempts.caller) }
+        ensures may { OnOk result ((map : List Val) × MayBegin L.holds tx.new.attempts.caller map) }
     {
         let order = Order {
             cells: self.map.cells,
@@ -158,6 +163,7 @@ impl<V: Word> OrderedMap<V> {
         ensures stops { IfErr result (λ stop. Stops (order_end self.map.cells) tx.old.notes tx.old.attempts.caller stop.why) }
         ensures pops { IfOk result (λ popped. Does L.holds (order_end self.map.cells) (Pops V.found self popped)
             tx.old.attempts.caller tx.new.attempts.caller) }
+        ensures may { OnOk result ((map : List Val) × MayBegin L.holds tx.new.attempts.caller map) }
     {
         let first = self.first(tx)?;
         let Some(entry) = first else {
@@ -174,6 +180,7 @@ impl<V: Word> OrderedMap<V> {
         ensures stops { IfErr result (λ stop. Stops (order_end self.map.cells) false tx.old.attempts.caller stop.why) }
         ensures tells { IfOk result (λ answer. Does L.holds (order_end self.map.cells) (TellsEnd V.found self greatest answer)
             tx.old.attempts.caller tx.new.attempts.caller) }
+        ensures may { OnOk result ((map : List Val) × MayBegin L.holds tx.new.attempts.caller map) }
     {
         let order = Order {
             cells: self.map.cells,
@@ -195,6 +202,7 @@ impl<V: Word> OrderedMap<V> {
         ensures stops { IfErr result (λ stop. Stops (order_end self.map.cells) tx.old.notes tx.old.attempts.caller stop.why) }
         ensures adds { IfOk result (λ placed. Does L.holds (order_end self.map.cells) (Adding V.found self key value placed)
             tx.old.attempts.caller tx.new.attempts.caller) }
+        ensures may { OnOk result (StillMay L.holds tx.old.attempts.caller tx.new.attempts.caller) }
     {
         let order = Order {
             cells: self.map.cells,
@@ -219,6 +227,7 @@ impl<V: Word> OrderedMap<V> {
         ensures stops { IfErr result (λ stop. Stops (order_end self.map.cells) tx.old.notes tx.old.attempts.caller stop.why) }
         ensures takes { OnOk result (Does L.holds (order_end self.map.cells) (Takes V.found self key at)
             tx.old.attempts.caller tx.new.attempts.caller) }
+        ensures may { OnOk result ((map : List Val) × MayBegin L.holds tx.new.attempts.caller map) }
     {
         let order = Order {
             cells: self.map.cells,
@@ -236,6 +245,7 @@ impl<V: Word> OrderedMap<V> {
         ensures stops { IfErr result (λ stop. Stops (order_end self.map.cells) false tx.old.attempts.caller stop.why) }
         ensures looks { IfOk result (λ answer. Does L.holds (order_end self.map.cells) (Looks V.found self place answer)
             tx.old.attempts.caller tx.new.attempts.caller) }
+        ensures may { OnOk result (StillMay L.holds tx.old.attempts.caller tx.new.attempts.caller) }
     {
         let Some(at) = place else {
             return Ok(None);

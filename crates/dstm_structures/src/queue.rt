@@ -1,8 +1,9 @@
 // A queue in the cells of a memory.
-ghost use Rattle.std.specs.Prelude.{◌≡◌, ◌+◌, ◌<◌, false, IfErr, IfOk, OnOk, Err};
+ghost use Rattle.std.specs.Prelude.{◌≡◌, ◌+◌, ◌<◌, List, false, IfErr, IfOk, OnOk, Err};
 ghost use Rattle.dstm_cells.specs.Alternatives.{Notes, noting};
-ghost use Rattle.dstm_cells.specs.UnderWay.{Keeps, stop_by};
+ghost use Rattle.dstm_cells.specs.UnderWay.{Keeps, MayBegin, stop_by};
 ghost use Rattle.dstm_cells.specs.declared.error.Why.TheVariants.{Retry};
+ghost use Rattle.dstm_model.specs.declared.value.Val.{Val};
 ghost use Rattle.dstm_structures.specs.Effects.{Does, Stops};
 ghost use Rattle.dstm_structures.specs.Queues.{Adds, Counts, Fronts, Pops, PutsLast, Pushes, TakesFirst, end_of, within};
 
@@ -56,6 +57,7 @@ impl<T: Word> Queue<T> {
         ensures stops { IfErr result (λ stop. Stops (end_of self) false tx.old.attempts.caller stop.why) }
         ensures counts { IfOk result (λ count. Does L.holds (end_of self) (Counts T.found self count)
             tx.old.attempts.caller tx.new.attempts.caller) }
+        ensures may { OnOk result ((map : List Val) × MayBegin L.holds tx.new.attempts.caller map) }
     {
         let ends = tx.get(self.ends())?;
         Ok(self.within(ends).1)
@@ -68,6 +70,7 @@ impl<T: Word> Queue<T> {
         ensures stops { IfErr result (λ stop. Stops (end_of self) tx.old.notes tx.old.attempts.caller stop.why) }
         ensures pushes { IfOk result (λ pushed. Does L.holds (end_of self) (Pushes T.found self value pushed)
             tx.old.attempts.caller tx.new.attempts.caller) }
+        ensures may { OnOk result ((map : List Val) × MayBegin L.holds tx.new.attempts.caller map) }
     {
         let ends = tx.get(self.ends())?;
         let (at, count) = self.within(ends);
@@ -87,6 +90,8 @@ impl<T: Word> Queue<T> {
             tx.old.attempts.caller tx.new.attempts.caller }
         ensures pushes { OnOk result (Does L.holds (end_of self) (PutsLast T.found self value)
             tx.old.attempts.caller tx.new.attempts.caller) }
+        ensures may { OnOk result ((map : List Val) × MayBegin L.holds tx.new.attempts.caller map) }
+        ensures waits { result ≡ Err (stop_by Retry) → ((map : List Val) × MayBegin L.holds tx.new.attempts.caller map) }
     {
         let pushed = self.try_push(tx, value)?;
         if pushed { Ok(()) } else { retry() }
@@ -99,6 +104,7 @@ impl<T: Word> Queue<T> {
         ensures stops { IfErr result (λ stop. Stops (end_of self) tx.old.notes tx.old.attempts.caller stop.why) }
         ensures pops { IfOk result (λ popped. Does L.holds (end_of self) (Pops T.found self popped)
             tx.old.attempts.caller tx.new.attempts.caller) }
+        ensures may { OnOk result ((map : List Val) × MayBegin L.holds tx.new.attempts.caller map) }
     {
         let ends = tx.get(self.ends())?;
         let (at, count) = self.within(ends);
@@ -118,6 +124,8 @@ impl<T: Word> Queue<T> {
             tx.old.attempts.caller tx.new.attempts.caller }
         ensures pops { IfOk result (λ value. Does L.holds (end_of self) (TakesFirst T.found self value)
             tx.old.attempts.caller tx.new.attempts.caller) }
+        ensures may { OnOk result ((map : List Val) × MayBegin L.holds tx.new.attempts.caller map) }
+        ensures waits { result ≡ Err (stop_by Retry) → ((map : List Val) × MayBegin L.holds tx.new.attempts.caller map) }
     {
         let popped = self.try_pop(tx)?;
         match popped {
@@ -133,6 +141,7 @@ impl<T: Word> Queue<T> {
         ensures stops { IfErr result (λ stop. Stops (end_of self) false tx.old.attempts.caller stop.why) }
         ensures fronts { IfOk result (λ front. Does L.holds (end_of self) (Fronts T.found self front)
             tx.old.attempts.caller tx.new.attempts.caller) }
+        ensures may { OnOk result ((map : List Val) × MayBegin L.holds tx.new.attempts.caller map) }
     {
         let ends = tx.get(self.ends())?;
         let (at, count) = self.within(ends);

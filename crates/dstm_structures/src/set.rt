@@ -86,6 +86,7 @@ impl OrderedSet {
         ensures stops { IfErr result (λ stop. Stops (order_end self.map.map.cells) tx.old.notes tx.old.attempts.caller stop.why) }
         ensures inserts { IfOk result (λ inserted. Does L.holds (order_end self.map.map.cells) (Inserts self key inserted)
             tx.old.attempts.caller tx.new.attempts.caller) }
+        ensures may { OnOk result ((map : List Val) × MayBegin L.holds tx.new.attempts.caller map) }
     {
         let found = self.map.map.find(tx, key)?;
         if found.is_some() {
@@ -102,6 +103,7 @@ impl OrderedSet {
         ensures stops { IfErr result (λ stop. Stops (order_end self.map.map.cells) tx.old.notes tx.old.attempts.caller stop.why) }
         ensures removes { IfOk result (λ removed. Does L.holds (order_end self.map.map.cells) (Removes self key removed)
             tx.old.attempts.caller tx.new.attempts.caller) }
+        ensures may { OnOk result ((map : List Val) × MayBegin L.holds tx.new.attempts.caller map) }
     {
         let removed = self.map.remove(tx, key)?;
         Ok(removed.is_some())
@@ -114,6 +116,7 @@ impl OrderedSet {
         ensures stops { IfErr result (λ stop. Stops (order_end self.map.map.cells) false tx.old.attempts.caller stop.why) }
         ensures tells { IfOk result (λ answer. Does L.holds (order_end self.map.map.cells) (TellsFirst self answer)
             tx.old.attempts.caller tx.new.attempts.caller) }
+        ensures may { OnOk result ((map : List Val) × MayBegin L.holds tx.new.attempts.caller map) }
     {
         let first = self.map.first(tx)?;
         Ok(key_in(first))
@@ -126,6 +129,7 @@ impl OrderedSet {
         ensures stops { IfErr result (λ stop. Stops (order_end self.map.map.cells) false tx.old.attempts.caller stop.why) }
         ensures tells { IfOk result (λ answer. Does L.holds (order_end self.map.map.cells) (TellsLast self answer)
             tx.old.attempts.caller tx.new.attempts.caller) }
+        ensures may { OnOk result ((map : List Val) × MayBegin L.holds tx.new.attempts.caller map) }
     {
         let last = self.map.last(tx)?;
         Ok(key_in(last))
@@ -138,6 +142,7 @@ impl OrderedSet {
         ensures stops { IfErr result (λ stop. Stops (order_end self.map.map.cells) false tx.old.attempts.caller stop.why) }
         ensures tells { IfOk result (λ answer. Does L.holds (order_end self.map.map.cells) (TellsAbove self key answer)
             tx.old.attempts.caller tx.new.attempts.caller) }
+        ensures may { OnOk result ((map : List Val) × MayBegin L.holds tx.new.attempts.caller map) }
     {
         let next = self.map.next_above(tx, key)?;
         Ok(key_in(next))
@@ -150,6 +155,7 @@ impl OrderedSet {
         ensures stops { IfErr result (λ stop. Stops (order_end self.map.map.cells) tx.old.notes tx.old.attempts.caller stop.why) }
         ensures pops { IfOk result (λ popped. Does L.holds (order_end self.map.map.cells) (Pops self popped)
             tx.old.attempts.caller tx.new.attempts.caller) }
+        ensures may { OnOk result ((map : List Val) × MayBegin L.holds tx.new.attempts.caller map) }
     {
         let popped = self.map.pop_first(tx)?;
         Ok(key_in(popped))

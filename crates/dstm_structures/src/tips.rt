@@ -1,8 +1,9 @@
 // How keys are added to the order of a map, and taken out.
-ghost use Rattle.std.specs.Prelude.{◌≡◌, ◌≢◌, ◌+◌, ◌*◌, ◌/◌, ◌^◌, ◌<◌, ◌≤◌, false, if◌then◌else◌, nat_lt, IfErr, IfOk, IfSome, OnOk};
+ghost use Rattle.std.specs.Prelude.{◌≡◌, ◌≢◌, ◌+◌, ◌*◌, ◌/◌, ◌^◌, ◌<◌, ◌≤◌, List, false, if◌then◌else◌, nat_lt, IfErr, IfOk, IfSome, OnOk};
 ghost use Rattle.dstm_cells.specs.Alternatives.{Notes, noting};
-ghost use Rattle.dstm_cells.specs.UnderWay.{Keeps};
-ghost use Rattle.dstm_structures.specs.Effects.{Does, Stops};
+ghost use Rattle.dstm_cells.specs.UnderWay.{Keeps, MayBegin};
+ghost use Rattle.dstm_model.specs.declared.value.Val.{Val};
+ghost use Rattle.dstm_structures.specs.Effects.{Does, StillMay, Stops};
 ghost use Rattle.dstm_structures.specs.Orders.{order_end};
 ghost use Rattle.dstm_structures.specs.Tips.{AddsBeside, AddsKey, AddsOver, AddsTip, DropsKey, DropsTip, FreesFork, LooksFork, SeeksFork, SetsFork, SetsRoot, SetsSide};
 
@@ -35,6 +36,7 @@ impl Order {
         ensures stops { IfErr result (λ stop. Stops (order_end self.cells) tx.old.notes tx.old.attempts.caller stop.why) }
         ensures adds { OnOk result (Does L.holds (order_end self.cells) (AddsKey self.cells key at cell)
             tx.old.attempts.caller tx.new.attempts.caller) }
+        ensures may { OnOk result ((map : List Val) × MayBegin L.holds tx.new.attempts.caller map) }
     {
         let root = tx.get(self.root_at())?;
         let now = self.add_below(tx, Added { key, at, cell }, root, 64)?;
@@ -49,6 +51,7 @@ impl Order {
         ensures stops { IfErr result (λ stop. Stops (order_end self.cells) tx.old.notes tx.old.attempts.caller stop.why) }
         ensures drops { OnOk result (Does L.holds (order_end self.cells) (DropsKey self.cells key at)
             tx.old.attempts.caller tx.new.attempts.caller) }
+        ensures may { OnOk result ((map : List Val) × MayBegin L.holds tx.new.attempts.caller map) }
     {
         let root = tx.get(self.root_at())?;
         let now = self.drop_below(tx, key, at, root, 64)?;
@@ -69,6 +72,7 @@ impl Order {
         ensures within { IfOk result (λ free. IfSome free (λ cell. cell < self.cells.capacity)) }
         ensures seeks { IfOk result (λ free. Does L.holds (order_end self.cells) (SeeksFork self.cells free)
             tx.old.attempts.caller tx.new.attempts.caller) }
+        ensures may { OnOk result (StillMay L.holds tx.old.attempts.caller tx.new.attempts.caller) }
     {
         for passed in 0..self.cells.capacity {
             let cell = behind(self.cells.capacity, home, passed);
@@ -98,6 +102,7 @@ impl Order {
         ensures adds { IfOk result (λ now. Does L.holds (order_end self.cells)
             (AddsTip self.cells added.key added.at added.cell link under now)
             tx.old.attempts.caller tx.new.attempts.caller) }
+        ensures may { OnOk result (StillMay L.holds tx.old.attempts.caller tx.new.attempts.caller) }
     {
         match self.link(link) {
             Link::Nothing => Ok(to_tip(added.at)),
@@ -135,6 +140,7 @@ impl Order {
         ensures adds { IfOk result (λ now. Does L.holds (order_end self.cells)
             (AddsBeside self.cells added.key added.at added.cell place now)
             tx.old.attempts.caller tx.new.attempts.caller) }
+        ensures may { OnOk result ((map : List Val) × MayBegin L.holds tx.new.attempts.caller map) }
     {
         let slot = tx.get(self.cells.slot_at(place))?;
         let Some(other) = slot.key else {
@@ -175,6 +181,7 @@ impl Order {
         ensures adds { IfOk result (λ now. Does L.holds (order_end self.cells)
             (AddsOver self.cells added.key added.at added.cell over fork now)
             tx.old.attempts.caller tx.new.attempts.caller) }
+        ensures may { OnOk result (StillMay L.holds tx.old.attempts.caller tx.new.attempts.caller) }
     {
         let ours = (added.key >> fork.level) / 2;
         let higher = parting(ours, fork.prefix);
@@ -210,6 +217,7 @@ impl Order {
         ensures few { IfOk result (λ now. now < 268435456) }
         ensures drops { IfOk result (λ now. Does L.holds (order_end self.cells) (DropsTip self.cells key at link under now)
             tx.old.attempts.caller tx.new.attempts.caller) }
+        ensures may { OnOk result (StillMay L.holds tx.old.attempts.caller tx.new.attempts.caller) }
     {
         match self.link(link) {
             Link::Nothing => Ok(0),
@@ -251,6 +259,7 @@ impl Order {
         ensures right { IfOk result (λ fork. fork.right < 268435456) }
         ensures looks { IfOk result (λ fork. Does L.holds (order_end self.cells) (LooksFork self.cells cell fork)
             tx.old.attempts.caller tx.new.attempts.caller) }
+        ensures may { OnOk result ((map : List Val) × MayBegin L.holds tx.new.attempts.caller map) }
     {
         let held = tx.get(self.fork_at(cell))?;
         Ok(fork_of(held))
@@ -267,6 +276,7 @@ impl Order {
         ensures stops { IfErr result (λ stop. Stops (order_end self.cells) tx.old.notes tx.old.attempts.caller stop.why) }
         ensures sets { OnOk result (Does L.holds (order_end self.cells) (SetsFork self.cells cell fork)
             tx.old.attempts.caller tx.new.attempts.caller) }
+        ensures may { OnOk result ((map : List Val) × MayBegin L.holds tx.new.attempts.caller map) }
     {
         tx.set(self.fork_at(cell), held_of(fork))?;
         Ok(())
@@ -292,6 +302,7 @@ impl Order {
         ensures sets { OnOk result (Does L.holds (order_end self.cells) (SetsSide self.cells cell fork greater link)
             tx.old.attempts.caller tx.new.attempts.caller) }
         ensures stays { (if greater then fork.right else fork.left) ≡ link → tx.new ≡ tx.old }
+        ensures may { OnOk result (StillMay L.holds tx.old.attempts.caller tx.new.attempts.caller) }
     {
         if fork.side(greater) == link {
             return Ok(());
@@ -308,6 +319,7 @@ impl Order {
         ensures sets { OnOk result (Does L.holds (order_end self.cells) (SetsRoot self.cells was now)
             tx.old.attempts.caller tx.new.attempts.caller) }
         ensures stays { was ≡ now → tx.new ≡ tx.old }
+        ensures may { OnOk result (StillMay L.holds tx.old.attempts.caller tx.new.attempts.caller) }
     {
         if was == now {
             return Ok(());
@@ -324,6 +336,7 @@ impl Order {
         ensures stops { IfErr result (λ stop. Stops (order_end self.cells) tx.old.notes tx.old.attempts.caller stop.why) }
         ensures frees { OnOk result (Does L.holds (order_end self.cells) (FreesFork self.cells cell)
             tx.old.attempts.caller tx.new.attempts.caller) }
+        ensures may { OnOk result ((map : List Val) × MayBegin L.holds tx.new.attempts.caller map) }
     {
         tx.set(self.fork_at(cell), (0, 0))?;
         Ok(())

@@ -1,5 +1,5 @@
 // Walks over the places of a map, by a transaction under way or between runs.
-ghost use Rattle.std.specs.Prelude.{◌≡◌, ◌<◌, ◌≤◌, false, true, IfErr, IfOk, IfSome, OnOk};
+ghost use Rattle.std.specs.Prelude.{◌≡◌, ◌<◌, ◌≤◌, false, true, if◌then◌else◌, nat_lt, IfErr, IfOk, IfSome, OnOk};
 ghost use Rattle.dstm_structures.specs.Items.{Lists, ListsPlace, Stands};
 ghost use Rattle.dstm_structures.specs.Looks.{Shows, StandsSomewhere};
 ghost use Rattle.dstm_structures.specs.Maps.{Reaches, Seeks, Tells, end_of};
@@ -36,8 +36,15 @@ impl<V: Word> HashMap<V> {
         ensures may { OnOk result (StandsSomewhere B.Stands by.new) }
     {
         let home = self.home(key);
-        let reach = self.reach_by(by, home)?;
-        for passed in 0..reach {
+        let first = by.look(self.cells.slot_at(home))?;
+        let reach = self.at_most(first.reach);
+        if reach == 0 {
+            return Ok(None);
+        }
+        if is_key(key, first.key) {
+            return Ok(Some(home));
+        }
+        for passed in 1..reach {
             let at = behind(self.cells.capacity, home, passed);
             let slot = by.look(self.cells.slot_at(at))?;
             if is_key(key, slot.key) {
@@ -57,10 +64,17 @@ impl<V: Word> HashMap<V> {
         ensures may { OnOk result (StandsSomewhere B.Stands by.new) }
     {
         let slot = by.look(self.cells.slot_at(home))?;
-        if slot.reach < self.cells.capacity {
-            Ok(slot.reach)
+        Ok(self.at_most(slot.reach))
+    }
+
+    // So many places, where there are so many.
+    fn at_most(self, places: u32) -> u32
+        ensures { result ≡ (if nat_lt places self.cells.capacity then places else self.cells.capacity) }
+    {
+        if places < self.cells.capacity {
+            places
         } else {
-            Ok(self.cells.capacity)
+            self.cells.capacity
         }
     }
 
@@ -73,6 +87,7 @@ impl<V: Word> HashMap<V> {
         ensures stays { B.Stays by.old by.new }
         ensures fails { IfErr result (B.Fails true (end_of self) by.old) }
         ensures lists { IfOk result (λ items. Shows B.Stands (λ values. Lists V.found self items.items values values) by.new) }
+        ensures may { OnOk result (StandsSomewhere B.Stands by.new) }
     {
         let mut items = Vec::new(alloc);
         for at in 0..self.cells.capacity {
@@ -88,6 +103,7 @@ impl<V: Word> HashMap<V> {
         ensures fails { IfErr result (B.Fails true (end_of self) by.old) }
         ensures lists { OnOk result (Shows B.Stands
             (λ values. ListsPlace V.found self at items.old.items items.new.items values values) by.new) }
+        ensures may { OnOk result (StandsSomewhere B.Stands by.new) }
     {
         let found = self.stands_by(by, at)?;
         let Some(key) = found else {
@@ -106,6 +122,7 @@ impl<V: Word> HashMap<V> {
         ensures stays { B.Stays by.old by.new }
         ensures fails { IfErr result (B.Fails false (end_of self) by.old) }
         ensures stands { IfOk result (λ key. Shows B.Stands (λ values. Stands self at key values values) by.new) }
+        ensures may { OnOk result (StandsSomewhere B.Stands by.new) }
     {
         let slot = by.look(self.cells.slot_at(at))?;
         let Some(key) = slot.key else {

@@ -1,16 +1,15 @@
-use Rattle.std.proofs.Common.{◌∙◌, arith, sym}
-use Rattle.dstm_structures.proofs.Doing.{does-as, then-read}
+use Rattle.std.proofs.Common.{◌∙◌, arith, refl, sym}
+use Rattle.dstm_structures.proofs.Doing.{does-as, does-still, then-read}
 use Rattle.dstm_structures.proofs.Mapping.{pass-found, pass-next, pass-none, pass-start, reads-key}
-use Rattle.dstm_structures.proofs.Noting.{notes_twice}
+use Rattle.dstm_structures.proofs.Noting.{notes_still, notes_twice}
 use Rattle.dstm_structures.proofs.map.HashMap.free.Goals as goal
 
 pub loop-passed-init : goal.loop-passed-init
 loop-passed-init g c = (
-  c.in_ok-reach.ensures.keeps,
-  c.in_ok-reach.ensures.notes,
-  does-as c.in_ok-reach.ensures.reaches
-      (λ before after size. pass-start c.args.self c.args.home c.in_ok-reach.reach before after),
-  c.in_ok-reach.ensures.may,
+  refl,
+  notes_still,
+  does-still (λ values. pass-start c.args.self c.args.home c.args.reach values),
+  λ m. m,
 )
 
 pub returns-in_err-slot-clause-keeps : goal.returns-in_err-slot-clause-keeps
@@ -28,19 +27,19 @@ returns-then-is_free-clause-notes g c = notes_twice c.loop-passed.invariant.1 c.
 pub returns-then-is_free-clause-frees : goal.returns-then-is_free-clause-frees
 returns-then-is_free-clause-frees g c =
     then-read c.loop-passed.invariant.0 c.loop-passed.invariant.2 c.in_ok-slot.ensures.gets
-    (λ before mid after size p reads. pass-found c.args.self c.args.home c.in_ok-reach.reach c.loop-passed.passed
+    (λ before mid after size p reads is. pass-found c.args.self c.args.home c.args.reach c.loop-passed.passed
     c.behind-at.result c.slot_at.result.object c.in_ok-slot.slot.key _ before mid after c.behind-at.ensures.behind c.slot_at.ensures
-    (grind arith) p (reads-key reads) (sym c.is_free.ensures ∙ c.if-is_free.true))
+    (grind arith) (p is) (reads-key reads) (sym c.is_free.ensures ∙ c.if-is_free.true))
 
 pub loop-passed-preserved : goal.loop-passed-preserved
 loop-passed-preserved g c = (
   c.in_ok-slot.ensures.keeps ∙ c.loop-passed.invariant.0,
   notes_twice c.loop-passed.invariant.1 c.in_ok-slot.ensures.notes,
   then-read c.loop-passed.invariant.0 c.loop-passed.invariant.2 c.in_ok-slot.ensures.gets
-      (λ before mid after size p reads. pass-next c.args.self c.args.home c.in_ok-reach.reach c.loop-passed.passed
+      (λ before mid after size p reads is. pass-next c.args.self c.args.home c.args.reach c.loop-passed.passed
       c.behind-at.result c.slot_at.result.object c.in_ok-slot.slot.key _ before mid after c.behind-at.ensures.behind c.slot_at.ensures
-      (grind arith) p (reads-key reads) (sym c.is_free.ensures ∙ c.if-is_free.false)),
-  c.in_ok-slot.ensures.may,
+      (grind arith) (p is) (reads-key reads) (sym c.is_free.ensures ∙ c.if-is_free.false)),
+  λ m. c.in_ok-slot.ensures.may,
 )
 
 pub returns-clause-keeps : goal.returns-clause-keeps
@@ -52,8 +51,8 @@ returns-clause-notes g c = c.loop-passed.invariant.1
 pub returns-clause-frees : goal.returns-clause-frees
 returns-clause-frees g c =
     does-as c.loop-passed.invariant.2
-    (λ before after size. pass-none c.args.self c.args.home c.in_ok-reach.reach c.loop-passed.passed before after
-    (omega (arith, c.loop-passed-test.false)))
+    (λ before after size p is. pass-none c.args.self c.args.home c.args.reach c.loop-passed.passed before after
+    (omega (arith, c.loop-passed-test.false)) (p is))
 
 pub returns-clause-may : goal.returns-clause-may
 returns-clause-may g c = c.loop-passed.invariant.3

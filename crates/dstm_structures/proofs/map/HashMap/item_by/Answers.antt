@@ -1,7 +1,8 @@
 use Rattle.std.proofs.Common.{ℕ, arith, refl, subst, rules, false, ◌≡◌}
-use Rattle.std.specs.Prelude.{Err, IfSome, Option, ◌<◌}
+use Rattle.std.specs.Prelude.{Err, Option, ◌<◌}
 use Rattle.dstm_structures.specs.Maps.{Seeks, end_of}
 use Rattle.dstm_structures.proofs.Mapping.{tells-none, tells-some}
+use Rattle.dstm_structures.proofs.Places.{of_some}
 use Rattle.dstm_structures.proofs.map.HashMap.item_by.Goals as goal
 
 pub returns-in_default-clause-tells : goal.returns-in_default-clause-tells
@@ -16,7 +17,7 @@ returns-in_err-value-clause-stays g c =
 
 pub returns-in_err-value-clause-fails : goal.returns-in_err-value-clause-fails
 returns-in_err-value-clause-fails g c =
-    let within = subst (λ (place : Option ℕ). IfSome place (λ at. at < c.args.self.cells.capacity)) c.in-Some.is
+    let within = of_some (λ at. at < c.args.self.cells.capacity) c.in-Some.is
     c.in_ok-found.ensures.within in
     let answer = c.from_residual-in_err-value.ensures in
     let is : c.from_residual-in_err-value.result ≡ Err c.in_err-value.field-0.0 = search rules in

@@ -9,6 +9,7 @@ loop-at-init g c = (
   g.met.B.Looks.still c.args.by.now,
   λ map values at. subst (λ (xs : List (ℕ × g.row.V.Denot)). Listing g.V.Word.found c.args.self 0 xs values values)
       (sym c.new-items.ensures.items) (list-start g.V.Word.found c.args.self values),
+  λ some. absurd (omega (arith, some)),
 )
 
 pub returns-in_err-list_by-clause-stays : goal.returns-in_err-list_by-clause-stays
@@ -30,6 +31,7 @@ loop-at-preserved g c = (
       (c.loop-at.invariant.1 map values
       (g.met.B.Looks.narrows c.loop-at.by c.list_by.new.by map values c.in_ok-list_by.ensures.stays at))
       (c.in_ok-list_by.ensures.lists map values at),
+  λ some. c.in_ok-list_by.ensures.may,
 )
 
 pub returns-clause-stays : goal.returns-clause-stays
@@ -39,3 +41,6 @@ pub returns-clause-lists : goal.returns-clause-lists
 returns-clause-lists g c map values at =
     list-end g.V.Word.found c.args.self c.loop-at.at c.loop-at.items.items values values
     (omega (arith, c.loop-at-test.false)) (c.loop-at.invariant.1 map values at)
+
+pub returns-clause-may : goal.returns-clause-may
+returns-clause-may g c = c.loop-at.invariant.2 (omega (arith, c.loop-at-test.false, c.args.self.cells.some))

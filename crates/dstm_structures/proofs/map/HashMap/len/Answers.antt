@@ -10,6 +10,7 @@ loop-at-init g c = (
   refl,
   notes_still,
   does-still (λ values. count-start g.V.Word.found c.args.self values),
+  λ some. absurd (omega (arith, some)),
 )
 
 pub returns-in_err-key-clause-keeps : goal.returns-in_err-key-clause-keeps
@@ -27,6 +28,7 @@ loop-at-preserved g c = (
       c.loop-at.invariant.3 c.in_ok-key.ensures.stands
       (λ before mid after size. count-next g.V.Word.found c.args.self c.loop-at.at c.loop-at.count c.one_if-count.result
       c.in_ok-key.key before mid after c.one_if-count.ensures.is),
+  λ some. c.in_ok-key.ensures.may,
 )
 
 pub returns-clause-keeps : goal.returns-clause-keeps
@@ -40,3 +42,6 @@ returns-clause-counts g c =
     does-as c.loop-at.invariant.3
     (λ before after size. count-end g.V.Word.found c.args.self c.loop-at.at c.loop-at.count before after
     (omega (arith, c.loop-at-test.false)))
+
+pub returns-clause-may : goal.returns-clause-may
+returns-clause-may g c = c.loop-at.invariant.4 (omega (arith, c.loop-at-test.false, c.args.self.cells.some))

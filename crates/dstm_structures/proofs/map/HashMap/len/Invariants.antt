@@ -1,6 +1,7 @@
-use Rattle.std.proofs.Common.{◌≤◌}
+use Rattle.std.proofs.Common.{◌<◌, ◌≤◌, List}
+use Rattle.dstm_model.specs.declared.value.Val.{Val}
 use Rattle.dstm_cells.specs.Alternatives.{Notes, noting}
-use Rattle.dstm_cells.specs.UnderWay.{Keeps}
+use Rattle.dstm_cells.specs.UnderWay.{Keeps, MayBegin}
 use Rattle.dstm_structures.specs.Effects.{Does}
 use Rattle.dstm_structures.specs.Maps.{end_of}
 use Rattle.dstm_structures.proofs.Items.{Counting}
@@ -14,3 +15,4 @@ invariant-loop-at g l =
     × Notes g.L.Law.holds (noting l.fn.tx) (noting l.tx)
     × Does g.L.Law.holds (end_of l.self) (Counting g.V.Word.found l.self l.at l.count) l.fn.tx.attempts.caller
     l.tx.attempts.caller
+    × (0 < l.at → (map : List Val) × MayBegin g.L.Law.holds l.tx.attempts.caller map)

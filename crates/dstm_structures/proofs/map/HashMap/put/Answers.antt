@@ -1,10 +1,9 @@
-use Rattle.std.proofs.Common.{ℕ, ◌<◌, subst}
-use Rattle.std.specs.Prelude.{IfSome, Option}
-use Rattle.dstm_structures.specs.Effects.{Does}
-use Rattle.dstm_structures.specs.Maps.{Seeks, end_of}
-use Rattle.dstm_structures.proofs.Doing.{does-then, then-write}
+use Rattle.std.proofs.Common.{◌<◌}
+use Rattle.dstm_structures.specs.Maps.{Seeks}
+use Rattle.dstm_structures.proofs.Doing.{does-is, does-then, then-write}
 use Rattle.dstm_structures.proofs.Mapping.{puts-absent, puts-instead}
 use Rattle.dstm_structures.proofs.Noting.{notes_twice}
+use Rattle.dstm_structures.proofs.Places.{of_some}
 use Rattle.dstm_structures.proofs.map.HashMap.put.Goals as goal
 
 pub returns-in_err-place-clause-notes : goal.returns-in_err-place-clause-notes
@@ -16,8 +15,7 @@ returns-in_default-clause-notes g c = notes_twice c.in_ok-found.ensures.notes c.
 pub returns-in_default-clause-puts : goal.returns-in_default-clause-puts
 returns-in_default-clause-puts g c =
     does-then c.in_ok-found.ensures.keeps
-    (subst (λ (place : Option ℕ). Does g.L.Law.holds (end_of c.args.self) (Seeks c.args.self c.args.key place)
-    c.args.tx.now.attempts.caller c.find.new.tx.attempts.caller) c.in_default.is c.in_ok-found.ensures.seeks)
+    (does-is (Seeks c.args.self c.args.key) c.in_default.is c.in_ok-found.ensures.seeks)
     c.in_ok-place.ensures.inserts
     (λ before mid after size. puts-absent g.V.Word.found c.args.self c.args.key c.args.value c.in_ok-place.place
     c.outcome.result before mid after c.outcome.ensures)
@@ -31,10 +29,9 @@ returns-clause-notes g c = notes_twice c.in_ok-found.ensures.notes c.in_ok-had.e
 pub returns-clause-puts : goal.returns-clause-puts
 returns-clause-puts g c =
     then-write c.in_ok-found.ensures.keeps
-    (subst (λ (place : Option ℕ). Does g.L.Law.holds (end_of c.args.self) (Seeks c.args.self c.args.key place)
-    c.args.tx.now.attempts.caller c.find.new.tx.attempts.caller) c.in-Some.is c.in_ok-found.ensures.seeks)
+    (does-is (Seeks c.args.self c.args.key) c.in-Some.is c.in_ok-found.ensures.seeks)
     c.in_ok-had.ensures.puts
     (λ before mid after size. puts-instead g.V.Word.found c.args.self c.args.key c.in-Some.at c.value_at.result.object
     c.in_ok-had.had c.args.value before mid after c.args.self.cells.some size
-    (subst (λ (place : Option ℕ). IfSome place (λ at. at < c.args.self.cells.capacity)) c.in-Some.is
+    (of_some (λ at. at < c.args.self.cells.capacity) c.in-Some.is
     c.in_ok-found.ensures.within) c.value_at.ensures)

@@ -1,7 +1,7 @@
 use Rattle.std.proofs.Common.{arith, refl, rules, ◌≡◌}
 use Rattle.std.specs.Prelude.{Err}
 use Rattle.dstm_structures.specs.Maps.{end_of}
-use Rattle.dstm_structures.proofs.Mapping.{reach-all, reach-few}
+use Rattle.dstm_structures.proofs.Mapping.{reach-told}
 use Rattle.dstm_structures.proofs.map.HashMap.reach_by.Goals as goal
 
 pub returns-in_err-slot-clause-fails : goal.returns-in_err-slot-clause-fails
@@ -11,12 +11,7 @@ returns-in_err-slot-clause-fails g c =
     rw is
     (c.in_err-slot.ensures.fails (end_of c.args.self) (omega (arith, c.slot_at.ensures, c.requires)))
 
-pub returns-then-slot-self-clause-reaches : goal.returns-then-slot-self-clause-reaches
-returns-then-slot-self-clause-reaches g c map values at =
-    reach-few c.args.self c.args.home c.slot_at.result.object c.in_ok-slot.slot c.in_ok-slot.slot.reach values values
-    c.slot_at.ensures c.if-slot-self.true refl (record { is = c.in_ok-slot.ensures.is map values at; same = refl })
-
-pub returns-else-slot-self-clause-reaches : goal.returns-else-slot-self-clause-reaches
-returns-else-slot-self-clause-reaches g c map values at =
-    reach-all c.args.self c.args.home c.slot_at.result.object c.in_ok-slot.slot values values c.slot_at.ensures
-    c.if-slot-self.false (record { is = c.in_ok-slot.ensures.is map values at; same = refl })
+pub returns-clause-reaches : goal.returns-clause-reaches
+returns-clause-reaches g c map values at =
+    reach-told c.args.self c.args.home c.slot_at.result.object c.in_ok-slot.slot c.at_most.result values values
+    c.slot_at.ensures c.at_most.ensures (record { is = c.in_ok-slot.ensures.is map values at; same = refl })

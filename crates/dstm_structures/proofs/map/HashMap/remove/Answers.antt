@@ -1,8 +1,5 @@
-use Rattle.std.proofs.Common.{subst}
-use Rattle.std.specs.Prelude.{Option}
-use Rattle.dstm_structures.specs.Effects.{Does}
-use Rattle.dstm_structures.specs.Maps.{Tells, end_of}
-use Rattle.dstm_structures.proofs.Doing.{does-then}
+use Rattle.dstm_structures.specs.Maps.{Tells}
+use Rattle.dstm_structures.proofs.Doing.{does-is, does-then}
 use Rattle.dstm_structures.proofs.Mapping.{takes-out}
 use Rattle.dstm_structures.proofs.Noting.{notes_twice}
 use Rattle.dstm_structures.proofs.map.HashMap.remove.Goals as goal
@@ -16,8 +13,7 @@ returns-clause-notes g c = notes_twice c.in_ok-found.ensures.notes c.in_ok-clear
 pub returns-clause-removes : goal.returns-clause-removes
 returns-clause-removes g c =
     does-then c.in_ok-found.ensures.keeps
-    (subst (λ (told : Option g.row.V.Denot). Does g.L.Law.holds (end_of c.args.self)
-    (Tells g.V.Word.found c.args.self c.args.key told) c.args.tx.now.attempts.caller c.get.new.tx.attempts.caller)
+    (does-is (Tells g.V.Word.found c.args.self c.args.key)
     c.in-Some.is c.in_ok-found.ensures.tells) c.in_ok-clear.ensures.clears
     (λ before mid after size. takes-out g.V.Word.found c.args.self c.args.key c.in-Some.value before mid after
     c.args.self.cells.some)

@@ -1,18 +1,14 @@
-use Rattle.std.proofs.Common.{refl}
-use Rattle.dstm_structures.proofs.Doing.{does-read, then-write}
+use Rattle.std.proofs.Common.{◌≡◌, ap, rules}
+use Rattle.dstm_structures.specs.declared.cells.Slot.{Slot}
+use Rattle.dstm_structures.proofs.Doing.{does-as, does-write}
 use Rattle.dstm_structures.proofs.Mapping.{sets-key}
-use Rattle.dstm_structures.proofs.Noting.{notes_twice}
 use Rattle.dstm_structures.proofs.map.HashMap.set_key.Goals as goal
-
-pub returns-in_err-set-clause-notes : goal.returns-in_err-set-clause-notes
-returns-in_err-set-clause-notes g c = notes_twice c.in_ok-slot.ensures.notes c.in_err-set.ensures.notes
-
-pub returns-clause-notes : goal.returns-clause-notes
-returns-clause-notes g c = notes_twice c.in_ok-slot.ensures.notes c.in_ok-set.ensures.notes
 
 pub returns-clause-sets : goal.returns-clause-sets
 returns-clause-sets g c =
-    then-write c.in_ok-slot.ensures.keeps (does-read c.in_ok-slot.ensures.gets) c.in_ok-set.ensures.puts.1
-    (λ before mid after size reads writes. sets-key c.args.self c.args.at c.slot_at.result.object c.slot_at-2.result.object
-    c.in_ok-slot.slot _ c.in_ok-set.ensures.puts.0 before mid after size c.requires c.slot_at.ensures c.slot_at-2.ensures
-    reads writes c.args.key refl refl)
+    let (now, post, changes) = c.in_ok-_before.ensures.puts in
+    let had : Slot = c.in_ok-_before._before in
+    let is : now ≡ record had { key = c.args.key } = search rules in
+    does-as (does-write changes)
+    (λ before after size writes. sets-key c.args.self c.args.at c.slot_at.result.object had now before after size c.requires
+    c.slot_at.ensures writes c.args.key (ap (λ (s : Slot). s.key) is) (ap (λ (s : Slot). s.reach) is))

@@ -1,8 +1,6 @@
-use Rattle.std.proofs.Common.{◌∙◌, ℕ, ◌/◌, ◌^◌, arith, refl, subst, sym}
-use Rattle.std.specs.Prelude.{Option}
-use Rattle.dstm_structures.specs.Effects.{Does}
-use Rattle.dstm_structures.specs.Orders.{Follows, IsNext, order_end}
-use Rattle.dstm_structures.proofs.Doing.{does-as, does-read, does-still, does-then, does-thrice}
+use Rattle.std.proofs.Common.{◌∙◌, ◌/◌, ◌^◌, arith, refl, sym}
+use Rattle.dstm_structures.specs.Orders.{Follows, IsNext}
+use Rattle.dstm_structures.proofs.Doing.{does-as, does-is, does-read, does-still, does-then, does-thrice}
 use Rattle.dstm_structures.proofs.Mapping.{reads-key}
 use Rattle.dstm_structures.proofs.Noting.{notes_thrice, notes_twice}
 use Rattle.dstm_structures.proofs.Ordering.{finds-nothing, finds-stopped, follows-all, follows-later, follows-left, follows-no-tip, follows-none, follows-right, follows-tip}
@@ -96,9 +94,7 @@ pub returns-in-Some-clause-follows : goal.returns-in-Some-clause-follows
 returns-in-Some-clause-follows g t c =
     let fork = c.in_ok-fork-in-Fork.fork in
     does-then c.in_ok-fork-in-Fork.ensures.keeps c.in_ok-fork-in-Fork.ensures.looks
-    (subst (λ (answer : Option ℕ). Does g.L.Law.holds (order_end c.args.self.cells)
-    (Follows c.args.self.cells c.args.key fork.left fork.level answer) c.look_fork.new.tx.attempts.caller
-    c.above-in-Fork.new.tx.attempts.caller) c.in-Some.is c.in_ok-left-in-Fork.ensures.follows)
+    (does-is (Follows c.args.self.cells c.args.key fork.left fork.level) c.in-Some.is c.in_ok-left-in-Fork.ensures.follows)
     (λ before mid after size looks done. follows-left c.args.self.cells c.args.link c.args.under c.in-Fork.at fork.level
     fork.prefix fork.left fork.right (sym c.in-Fork.is ∙ c.link.ensures.is) c.args.key (c.args.key / 2 ^ fork.level) refl before mid
     looks.tells looks.same c.in-Some.at after
@@ -116,9 +112,7 @@ pub returns-in_ok-later-in-Fork-clause-follows : goal.returns-in_ok-later-in-For
 returns-in_ok-later-in-Fork-clause-follows g t c =
     let fork = c.in_ok-fork-in-Fork.fork in
     does-thrice c.in_ok-fork-in-Fork.ensures.keeps c.in_ok-left-in-Fork.ensures.keeps c.in_ok-fork-in-Fork.ensures.looks
-    (subst (λ (answer : Option ℕ). Does g.L.Law.holds (order_end c.args.self.cells)
-    (Follows c.args.self.cells c.args.key fork.left fork.level answer) c.look_fork.new.tx.attempts.caller
-    c.above-in-Fork.new.tx.attempts.caller) c.in_default.is c.in_ok-left-in-Fork.ensures.follows)
+    (does-is (Follows c.args.self.cells c.args.key fork.left fork.level) c.in_default.is c.in_ok-left-in-Fork.ensures.follows)
     c.in_ok-later-in-Fork.ensures.ends
     (λ before mid near after size looks none done. follows-later c.args.self.cells c.args.link c.args.under c.in-Fork.at
     fork.level fork.prefix fork.left fork.right (sym c.in-Fork.is ∙ c.link.ensures.is) c.args.key (c.args.key / 2 ^ fork.level) refl before mid

@@ -1,8 +1,6 @@
 use Rattle.std.proofs.Common.{ℕ, ◌/◌, ◌%◌, ◌^◌, ◌==◌, arith, refl, subst, sym}
-use Rattle.dstm_structures.specs.Effects.{Does}
-use Rattle.dstm_structures.specs.Orders.{order_end}
 use Rattle.dstm_structures.specs.Tips.{AddsTip}
-use Rattle.dstm_structures.proofs.Doing.{does-as, does-then, does-thrice}
+use Rattle.dstm_structures.proofs.Doing.{does-as, does-is, does-then, does-thrice}
 use Rattle.dstm_structures.proofs.Noting.{notes_still, notes_thrice, notes_twice}
 use Rattle.dstm_structures.proofs.Tipping.{adds_over, adds_side, adds_tip}
 use Rattle.dstm_structures.proofs.order.Order.+add_below.Goals as goal
@@ -54,9 +52,7 @@ returns-in_ok-set_side-in-Fork-clause-adds g t c =
     let now = c.in_ok-now-in-Fork-2.now in
     let part = added.key / 2 ^ fork.level in
     let greater = part % 2 == 1 in
-    subst (λ (link : ℕ). Does g.L.Law.holds (order_end c.args.self.cells)
-    (AddsTip c.args.self.cells added.key added.at added.cell c.args.link c.args.under link) c.args.tx.now.attempts.caller
-    c.set_side.new.tx.attempts.caller) (sym c.to_fork-in-Fork.ensures)
+    does-is (AddsTip c.args.self.cells added.key added.at added.cell c.args.link c.args.under) (sym c.to_fork-in-Fork.ensures)
     (does-thrice c.in_ok-fork-in-Fork.ensures.keeps c.in_ok-now-in-Fork-2.ensures.keeps
     c.in_ok-fork-in-Fork.ensures.looks c.in_ok-now-in-Fork-2.ensures.adds c.in_ok-set_side-in-Fork.ensures.sets
     (λ before mid near after size looks adds sets. adds_side c.args.self.cells added.key added.at added.cell c.args.link

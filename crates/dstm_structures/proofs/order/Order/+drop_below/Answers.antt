@@ -1,8 +1,6 @@
 use Rattle.std.proofs.Common.{◌∙◌, ℕ, ◌/◌, ◌%◌, ◌^◌, ◌==◌, refl, subst, sym}
-use Rattle.dstm_structures.specs.Effects.{Does}
-use Rattle.dstm_structures.specs.Orders.{order_end}
 use Rattle.dstm_structures.specs.Tips.{DropsTip}
-use Rattle.dstm_structures.proofs.Doing.{does-as, does-thrice}
+use Rattle.dstm_structures.proofs.Doing.{does-as, does-is, does-thrice}
 use Rattle.dstm_structures.proofs.Dropping.{drops_apart, drops_fork, drops_side, far_side}
 use Rattle.dstm_structures.proofs.Noting.{notes_still, notes_thrice, notes_twice}
 use Rattle.dstm_structures.proofs.order.Order.+drop_below.Goals as goal
@@ -40,9 +38,8 @@ returns-then-now-eq0-clause-drops g t c =
     let now = c.in_ok-now-in-Fork.now in
     let part = c.args.key / 2 ^ fork.level in
     let greater = part % 2 == 1 in
-    subst (λ (link : ℕ). Does g.L.Law.holds (order_end cells)
-    (DropsTip cells c.args.key c.args.at c.args.link c.args.under link) c.args.tx.now.attempts.caller
-    c.clear_fork.new.tx.attempts.caller) (sym (c.side-then-now-eq0.ensures ∙ far_side part fork.right fork.left))
+    does-is (DropsTip cells c.args.key c.args.at c.args.link c.args.under)
+    (sym (c.side-then-now-eq0.ensures ∙ far_side part fork.right fork.left))
     (does-thrice c.in_ok-fork-in-Fork.ensures.keeps c.in_ok-now-in-Fork.ensures.keeps
     c.in_ok-fork-in-Fork.ensures.looks c.in_ok-now-in-Fork.ensures.drops c.in_ok-clear_fork-in-Fork.ensures.frees
     (λ before mid near after size looks drops frees. drops_fork cells c.args.key c.args.at c.args.link c.args.under
@@ -65,9 +62,7 @@ returns-in_ok-set_side-in-Fork-clause-drops g t c =
     let now = c.in_ok-now-in-Fork.now in
     let part = c.args.key / 2 ^ fork.level in
     let greater = part % 2 == 1 in
-    subst (λ (link : ℕ). Does g.L.Law.holds (order_end cells)
-    (DropsTip cells c.args.key c.args.at c.args.link c.args.under link) c.args.tx.now.attempts.caller
-    c.set_side.new.tx.attempts.caller) (sym c.to_fork-in-Fork.ensures)
+    does-is (DropsTip cells c.args.key c.args.at c.args.link c.args.under) (sym c.to_fork-in-Fork.ensures)
     (does-thrice c.in_ok-fork-in-Fork.ensures.keeps c.in_ok-now-in-Fork.ensures.keeps
     c.in_ok-fork-in-Fork.ensures.looks c.in_ok-now-in-Fork.ensures.drops c.in_ok-set_side-in-Fork.ensures.sets
     (λ before mid near after size looks drops sets. drops_side cells c.args.key c.args.at c.args.link c.args.under

@@ -1,10 +1,8 @@
 use Rattle.std.proofs.Common.{◌∙◌, ℕ, ◌/◌, ◌^◌, refl, subst, sym}
 use Rattle.std.specs.Prelude.{Option}
-use Rattle.dstm_structures.specs.Effects.{Does}
 use Rattle.dstm_structures.specs.Maps.{key_of}
-use Rattle.dstm_structures.specs.Orders.{order_end}
 use Rattle.dstm_structures.specs.Tips.{AddsBeside}
-use Rattle.dstm_structures.proofs.Doing.{Reads, does-as, does-read, does-then}
+use Rattle.dstm_structures.proofs.Doing.{Reads, does-as, does-is, does-read, does-then}
 use Rattle.dstm_structures.proofs.Mapping.{reads-key}
 use Rattle.dstm_structures.proofs.Noting.{notes_twice}
 use Rattle.dstm_structures.proofs.Places.{some_is}
@@ -14,10 +12,8 @@ use Rattle.dstm_structures.proofs.order.Order.add_beside.Goals as goal
 pub returns-then-other-added-clause-adds : goal.returns-then-other-added-clause-adds
 returns-then-other-added-clause-adds g c =
     let added = c.args.added in
-    subst (λ (now : ℕ). Does g.L.Law.holds (order_end c.args.self.cells)
-    (AddsBeside c.args.self.cells added.key added.at added.cell c.args.place now) c.args.tx.now.attempts.caller
-    c.get.new.self.attempts.caller) (sym c.to_tip-then-other-added.ensures) (does-as
-    (does-read c.in_ok-slot.ensures.gets)
+    does-is (AddsBeside c.args.self.cells added.key added.at added.cell c.args.place)
+    (sym c.to_tip-then-other-added.ensures) (does-as (does-read c.in_ok-slot.ensures.gets)
     (λ before after size reads. beside_none c.args.self.cells added.key added.at added.cell c.args.place
     c.slot_at.result.object c.in_ok-slot.slot.key before after c.slot_at.ensures
     (λ k e. some_is k c.in-Some.other (sym e ∙ c.in-Some.is) ∙ c.if-other-added.true) (reads-key reads)))
@@ -32,10 +28,8 @@ pub returns-clause-adds : goal.returns-clause-adds
 returns-clause-adds g c =
     let added = c.args.added in
     let level = c.parting-level.result in
-    subst (λ (now : ℕ). Does g.L.Law.holds (order_end c.args.self.cells)
-    (AddsBeside c.args.self.cells added.key added.at added.cell c.args.place now) c.args.tx.now.attempts.caller
-    c.set_fork.new.tx.attempts.caller) (sym c.to_fork.ensures) (does-then c.in_ok-slot.ensures.keeps
-    (does-read c.in_ok-slot.ensures.gets) c.in_ok-set_fork.ensures.sets
+    does-is (AddsBeside c.args.self.cells added.key added.at added.cell c.args.place)
+    (sym c.to_fork.ensures) (does-then c.in_ok-slot.ensures.keeps (does-read c.in_ok-slot.ensures.gets) c.in_ok-set_fork.ensures.sets
     (λ before mid after size reads sets. beside_set c.args.self.cells added.key added.at added.cell c.args.place
     c.slot_at.result.object c.in-Some.other level (added.key / 2 ^ level) (c.in-Some.other / 2 ^ level) c.to_tip-2.result
     c.to_tip-3.result c.parted-fork.result before mid after c.slot_at.ensures c.requires.at c.requires.cell

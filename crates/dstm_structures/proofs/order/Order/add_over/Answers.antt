@@ -1,17 +1,14 @@
-use Rattle.std.proofs.Common.{ℕ, ◌/◌, ◌^◌, arith, refl, subst, sym}
-use Rattle.dstm_structures.specs.Effects.{Does}
-use Rattle.dstm_structures.specs.Orders.{order_end}
+use Rattle.std.proofs.Common.{◌/◌, ◌^◌, arith, refl, sym}
 use Rattle.dstm_structures.specs.Tips.{AddsOver}
-use Rattle.dstm_structures.proofs.Doing.{does-as, does-still}
+use Rattle.dstm_structures.proofs.Doing.{does-as, does-is, does-still}
 use Rattle.dstm_structures.proofs.Tipping.{over_high, over_set}
 use Rattle.dstm_structures.proofs.order.Order.add_over.Goals as goal
 
 pub returns-then-level-ge64-clause-adds : goal.returns-then-level-ge64-clause-adds
 returns-then-level-ge64-clause-adds g c =
     let added = c.args.added in
-    subst (λ (now : ℕ). Does g.L.Law.holds (order_end c.args.self.cells)
-    (AddsOver c.args.self.cells added.key added.at added.cell c.args.over c.args.fork now) c.args.tx.now.attempts.caller
-    c.args.tx.now.attempts.caller) (sym c.to_fork.ensures) (does-still
+    does-is (AddsOver c.args.self.cells added.key added.at added.cell c.args.over c.args.fork)
+    (sym c.to_fork.ensures) (does-still
     (λ values. over_high c.args.self.cells added.key added.at added.cell c.args.over c.parting-higher.result
     (added.key / 2 ^ c.args.fork.level / 2) c.args.fork values refl c.parting-higher.ensures.differ
     (omega (arith, c.if-level-ge64.true))))
@@ -21,9 +18,8 @@ returns-clause-adds g c =
     let added = c.args.added in
     let ours = added.key / 2 ^ c.args.fork.level / 2 in
     let higher_by = c.parting-higher.result in
-    subst (λ (now : ℕ). Does g.L.Law.holds (order_end c.args.self.cells)
-    (AddsOver c.args.self.cells added.key added.at added.cell c.args.over c.args.fork now) c.args.tx.now.attempts.caller
-    c.set_fork.new.tx.attempts.caller) (sym c.to_fork-3.ensures) (does-as c.in_ok-set_fork.ensures.sets
+    does-is (AddsOver c.args.self.cells added.key added.at added.cell c.args.over c.args.fork)
+    (sym c.to_fork-3.ensures) (does-as c.in_ok-set_fork.ensures.sets
     (λ before after size sets. over_set c.args.self.cells added.key added.at added.cell c.args.over higher_by ours c.args.fork
     before refl c.parting-higher.ensures.differ (ours / 2 ^ higher_by) (c.args.fork.prefix / 2 ^ higher_by) c.to_tip.result
     c.to_fork-2.result c.parted-parts.result after c.requires.at c.requires.cell c.parting-higher.ensures.same refl refl

@@ -9,6 +9,7 @@ loop-passed-init g c = (
   refl,
   notes_still,
   does-still (λ values. forks_start c.args.self.cells c.args.home values),
+  λ m. m,
 )
 
 pub returns-in_err-held-clause-keeps : goal.returns-in_err-held-clause-keeps
@@ -38,6 +39,7 @@ loop-passed-preserved g c = (
       (λ before mid after size p reads. fork_passed c.args.self.cells c.args.home c.loop-passed.passed
       c.behind-cell.result c.fork_at.result.object c.in_ok-held.held before mid after
       c.behind-cell.ensures.behind c.fork_at.ensures p reads (λ e. c.if-held-eq0.false e)),
+  λ m. c.in_ok-held.ensures.may,
 )
 
 pub returns-clause-keeps : goal.returns-clause-keeps
@@ -50,3 +52,9 @@ pub returns-clause-seeks : goal.returns-clause-seeks
 returns-clause-seeks g c =
     does-as c.loop-passed.invariant.2
     (λ before after size. forks_end c.args.self.cells c.args.home c.loop-passed.passed before after c.requires (omega (arith, c.loop-passed-test.false)))
+
+pub returns-then-held-eq0-clause-may : goal.returns-then-held-eq0-clause-may
+returns-then-held-eq0-clause-may g c m = c.in_ok-held.ensures.may
+
+pub returns-clause-may : goal.returns-clause-may
+returns-clause-may g c = c.loop-passed.invariant.3

@@ -1,18 +1,12 @@
-use Rattle.std.proofs.Common.{ℕ, subst}
-use Rattle.std.specs.Prelude.{Option}
-use Rattle.dstm_structures.specs.Effects.{Does}
 use Rattle.dstm_structures.specs.Ordered.{TellsFirst}
-use Rattle.dstm_structures.specs.Orders.{order_end}
-use Rattle.dstm_structures.proofs.Doing.{does-then}
+use Rattle.dstm_structures.proofs.Doing.{does-is, does-then}
 use Rattle.dstm_structures.proofs.Noting.{notes_twice}
 use Rattle.dstm_structures.proofs.Placing.{pops-some}
 use Rattle.dstm_structures.proofs.ordered.OrderedMap.pop_first.Goals as goal
 
 pub returns-in_default-clause-pops : goal.returns-in_default-clause-pops
 returns-in_default-clause-pops g c =
-    subst (λ (first : Option (ℕ × g.row.V.Denot)). Does g.L.Law.holds (order_end c.args.self.map.cells)
-    (TellsFirst g.V.Word.found c.args.self first) c.args.tx.now.attempts.caller c.first.new.tx.attempts.caller)
-    c.in_default.is c.in_ok-first.ensures.tells
+    does-is (TellsFirst g.V.Word.found c.args.self) c.in_default.is c.in_ok-first.ensures.tells
 
 pub returns-in_err-_removed-clause-notes : goal.returns-in_err-_removed-clause-notes
 returns-in_err-_removed-clause-notes g c = notes_twice c.in_ok-first.ensures.notes c.in_err-_removed.ensures.notes
@@ -23,7 +17,6 @@ returns-clause-notes g c = notes_twice c.in_ok-first.ensures.notes c.in_ok-_remo
 pub returns-clause-pops : goal.returns-clause-pops
 returns-clause-pops g c =
     does-then c.in_ok-first.ensures.keeps
-    (subst (λ (first : Option (ℕ × g.row.V.Denot)). Does g.L.Law.holds (order_end c.args.self.map.cells)
-    (TellsFirst g.V.Word.found c.args.self first) c.args.tx.now.attempts.caller c.first.new.tx.attempts.caller)
-    c.in-Some.is c.in_ok-first.ensures.tells) c.in_ok-_removed.ensures.removes
+    (does-is (TellsFirst g.V.Word.found c.args.self) c.in-Some.is c.in_ok-first.ensures.tells)
+    c.in_ok-_removed.ensures.removes
     (λ before mid after size. pops-some g.V.Word.found c.args.self c.in-Some.entry c.in_ok-_removed._removed before mid after)

@@ -1,8 +1,6 @@
-use Rattle.std.proofs.Common.{ℕ, arith, subst}
-use Rattle.std.specs.Prelude.{Option}
-use Rattle.dstm_structures.specs.Effects.{Does}
-use Rattle.dstm_structures.specs.Maps.{Seeks, end_of}
-use Rattle.dstm_structures.proofs.Doing.{does-as, does-read, does-thrice, does-wider}
+use Rattle.std.proofs.Common.{arith}
+use Rattle.dstm_structures.specs.Maps.{Seeks}
+use Rattle.dstm_structures.proofs.Doing.{does-as, does-is, does-read, does-thrice, does-wider}
 use Rattle.dstm_structures.proofs.Noting.{notes_thrice, notes_twice}
 use Rattle.dstm_structures.proofs.Placing.{removes-none, removes-some}
 use Rattle.dstm_structures.proofs.ordered.OrderedMap.remove.Goals as goal
@@ -10,8 +8,7 @@ use Rattle.dstm_structures.proofs.ordered.OrderedMap.remove.Goals as goal
 pub returns-in_default-clause-removes : goal.returns-in_default-clause-removes
 returns-in_default-clause-removes g c =
     does-as (does-wider (omega arith)
-    (subst (λ (place : Option ℕ). Does g.L.Law.holds (end_of c.args.self.map) (Seeks c.args.self.map c.args.key place)
-    c.args.tx.now.attempts.caller c.find.new.tx.attempts.caller) c.in_default.is c.in_ok-found.ensures.seeks))
+    (does-is (Seeks c.args.self.map c.args.key) c.in_default.is c.in_ok-found.ensures.seeks))
     (λ before after size. removes-none g.V.Word.found c.args.self c.args.key before after)
 
 pub returns-in_err-value-clause-notes : goal.returns-in_err-value-clause-notes
@@ -28,8 +25,7 @@ returns-clause-notes g c =
 pub returns-clause-removes : goal.returns-clause-removes
 returns-clause-removes g c =
     does-thrice c.in_ok-found.ensures.keeps c.in_ok-value.ensures.keeps (does-wider (omega arith)
-    (subst (λ (place : Option ℕ). Does g.L.Law.holds (end_of c.args.self.map) (Seeks c.args.self.map c.args.key place)
-    c.args.tx.now.attempts.caller c.find.new.tx.attempts.caller) c.in-Some.is c.in_ok-found.ensures.seeks))
+    (does-is (Seeks c.args.self.map c.args.key) c.in-Some.is c.in_ok-found.ensures.seeks))
     (does-read c.in_ok-value.ensures.gets) c.in_ok-take.ensures.takes
     (λ before near mid after size. removes-some g.V.Word.found c.args.self c.args.key c.in-Some.at c.value_at.result.object
     c.in_ok-value.value before near mid after c.value_at.ensures)

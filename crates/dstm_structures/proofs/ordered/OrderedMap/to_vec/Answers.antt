@@ -12,6 +12,7 @@ loop-next-init g c = (
       (λ before after size tells. subst (λ (xs : List (ℕ × g.row.V.Denot)).
       Walking g.V.Word.found c.args.self xs c.in_ok-next.next before after) (sym c.new-items.ensures.items)
       (walk-start g.V.Word.found c.args.self c.in_ok-next.next before after tells)),
+  c.in_ok-next.ensures.may,
 )
 
 pub returns-in_err-above-clause-notes : goal.returns-in_err-above-clause-notes
@@ -26,6 +27,7 @@ loop-next-preserved g c = (
       Walking g.V.Word.found c.args.self xs c.if_above-next.result before after) (sym c.in_ok-push.ensures.items)
       (walk-next g.V.Word.found c.args.self c.loop-next.items.items c.in-Some.entry c.loop-next.next c.in_ok-above.above
       c.if_above-next.result before mid after c.in-Some.is c.if_above-next.ensures walking tells)),
+  c.in_ok-above.ensures.may,
 )
 
 pub returns-clause-lists : goal.returns-clause-lists
@@ -33,3 +35,6 @@ returns-clause-lists g c =
     does-as c.loop-next.invariant.2
     (λ before after size. walk-end g.V.Word.found c.args.self c.loop-next.items.items c.loop-next.next before after
     c.in_default.is)
+
+pub returns-clause-may : goal.returns-clause-may
+returns-clause-may g c = c.loop-next.invariant.3

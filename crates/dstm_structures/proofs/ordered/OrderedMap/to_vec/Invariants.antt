@@ -1,5 +1,7 @@
+use Rattle.std.proofs.Common.{List}
+use Rattle.dstm_model.specs.declared.value.Val.{Val}
 use Rattle.dstm_cells.specs.Alternatives.{Notes, noting}
-use Rattle.dstm_cells.specs.UnderWay.{Keeps}
+use Rattle.dstm_cells.specs.UnderWay.{Keeps, MayBegin}
 use Rattle.dstm_structures.specs.Effects.{Does}
 use Rattle.dstm_structures.specs.Orders.{order_end}
 use Rattle.dstm_structures.proofs.Items.{Walking, left_above}
@@ -12,6 +14,7 @@ invariant-loop-next g l =
     × Notes g.L.Law.holds (noting l.fn.tx) (noting l.tx)
     × Does g.L.Law.holds (order_end l.self.map.cells) (Walking g.V.Word.found l.self l.items.items l.next)
     l.fn.tx.attempts.caller l.tx.attempts.caller
+    × ((map : List Val) × MayBegin g.L.Law.holds l.tx.attempts.caller map)
 
 abbrev pub decreases-loop-next : goal.decreases-loop-next
 decreases-loop-next g l = left_above l.next
