@@ -14,5 +14,3 @@ mod queues;
 mod replay;
 #[cfg(test)]
 mod runs;
-#[cfg(test)]
-mod sets;

@@ -1,11 +1,12 @@
 // A map, an ordered one and a set, by rows of calls, and beside the map of std. Each call is made on all in one transaction.
-use crate::plain::memory_by;
+use crate::plain::{Change, Part, atomically, is_so, memory_by};
 use crate::queues::draw;
 use dstm_cells::{Failed, GaveUp, Manager, Me, Memory, Stop, Tx};
 use dstm_structures::{HashMap, Inserted, OrderedMap, OrderedSet, Placed};
 use std::alloc::Global;
 use std::collections::BTreeMap;
 use std::test::Fail;
+use std::thread::Threads;
 
 #[derive(Clone, Copy)]
 pub enum Call {
@@ -67,10 +68,10 @@ fn call_hashed(
         (Call::Get(key), _) => Ok(Answer::Value(map.get(tx, key)?)),
         (Call::Contains(key), _) => Ok(Answer::There(map.contains(tx, key)?)),
         (Call::Remove(key), _) => Ok(Answer::Value(map.remove(tx, key)?)),
-        (Call::Pop, Answer::Entry(Some((key, _)))) => {
-            let value = map.remove(tx, key)?;
-            Ok(Answer::Entry(value.map(|value| (key, value))))
-        }
+        (Call::Pop, Answer::Entry(Some((key, _)))) => match map.remove(tx, key)? {
+            Some(value) => Ok(Answer::Entry(Some((key, value)))),
+            None => Ok(Answer::Entry(None)),
+        },
         _ => Ok(told),
     }
 }
@@ -78,18 +79,37 @@ fn call_hashed(
 // The answer of a set, as that of a map whose values are all 0.
 fn call_set(tx: &mut Tx<'_>, set: OrderedSet, call: Call) -> Result<Answer, Stop> {
     match call {
-        Call::Put(key, _) => match set.insert(tx, key)? {
-            Inserted::New => Ok(Answer::Placed(Placed::New)),
-            Inserted::There => Ok(Answer::Placed(Placed::Instead(0))),
-            Inserted::Full => Ok(Answer::Placed(Placed::Full)),
-        },
-        Call::Get(key) => Ok(Answer::Value(set.contains(tx, key)?.then_some(0))),
+        Call::Put(key, _) => Ok(placed(set.insert(tx, key)?)),
+        Call::Get(key) => Ok(value_if(set.contains(tx, key)?)),
         Call::Contains(key) => Ok(Answer::There(set.contains(tx, key)?)),
-        Call::Remove(key) => Ok(Answer::Value(set.remove(tx, key)?.then_some(0))),
-        Call::First => Ok(Answer::Entry(set.first(tx)?.map(|key| (key, 0)))),
-        Call::Last => Ok(Answer::Entry(set.last(tx)?.map(|key| (key, 0)))),
-        Call::Above(key) => Ok(Answer::Entry(set.next_above(tx, key)?.map(|key| (key, 0)))),
-        Call::Pop => Ok(Answer::Entry(set.pop_first(tx)?.map(|key| (key, 0)))),
+        Call::Remove(key) => Ok(value_if(set.remove(tx, key)?)),
+        Call::First => Ok(entry(set.first(tx)?)),
+        Call::Last => Ok(entry(set.last(tx)?)),
+        Call::Above(key) => Ok(entry(set.next_above(tx, key)?)),
+        Call::Pop => Ok(entry(set.pop_first(tx)?)),
+    }
+}
+
+fn placed(inserted: Inserted) -> Answer {
+    match inserted {
+        Inserted::New => Answer::Placed(Placed::New),
+        Inserted::There => Answer::Placed(Placed::Instead(0)),
+        Inserted::Full => Answer::Placed(Placed::Full),
+    }
+}
+
+fn value_if(there: bool) -> Answer {
+    if there {
+        Answer::Value(Some(0))
+    } else {
+        Answer::Value(None)
+    }
+}
+
+fn entry(key: Option<u64>) -> Answer {
+    match key {
+        Some(key) => Answer::Entry(Some((key, 0))),
+        None => Answer::Entry(None),
     }
 }
 
@@ -97,8 +117,8 @@ fn call_set(tx: &mut Tx<'_>, set: OrderedSet, call: Call) -> Result<Answer, Stop
 fn without_values(told: Answer) -> Answer {
     match told {
         Answer::Placed(Placed::Instead(_)) => Answer::Placed(Placed::Instead(0)),
-        Answer::Value(value) => Answer::Value(value.map(|_| 0)),
-        Answer::Entry(entry) => Answer::Entry(entry.map(|(key, _)| (key, 0))),
+        Answer::Value(value) => value_if(value.is_some()),
+        Answer::Entry(Some((key, _))) => entry(Some(key)),
         told => told,
     }
 }
@@ -111,8 +131,70 @@ pub fn call_all(tx: &mut Tx<'_>, maps: Maps, call: Call) -> Result<Option<Answer
     Ok(same.then_some(told))
 }
 
-// Maps with room for three keys are filled, read by their order and emptied.
-const THREE_KEYS: [(Call, Answer); 22] = [
+// Makes a call on all in a transaction of its own.
+#[derive(Drop)]
+struct Ask {
+    maps: Maps,
+    call: Call,
+}
+
+impl Change for Ask {
+    type Answer = Option<Answer>;
+
+    fn make(&self, tx: &mut Tx<'_>) -> Result<Option<Answer>, Stop> {
+        call_all(tx, self.maps, self.call)
+    }
+}
+
+// How many keys each has.
+#[derive(Drop)]
+struct Count {
+    maps: Maps,
+}
+
+impl Change for Count {
+    type Answer = (u32, u32, u32);
+
+    fn make(&self, tx: &mut Tx<'_>) -> Result<(u32, u32, u32), Stop> {
+        let hashed = self.maps.hashed.len(tx)?;
+        let ordered = self.maps.ordered.len(tx)?;
+        let set = self.maps.set.len(tx)?;
+        Ok((hashed, ordered, set))
+    }
+}
+
+/// All keys of a map with their values, in no order.
+#[derive(Drop)]
+struct Items {
+    map: HashMap<u64>,
+    alloc: Global,
+}
+
+impl Change for Items {
+    type Answer = Vec<(u64, u64)>;
+
+    fn make(&self, tx: &mut Tx<'_>) -> Result<Vec<(u64, u64)>, Stop> {
+        self.map.to_vec(tx, self.alloc)
+    }
+}
+
+/// All keys of an ordered map with their values.
+#[derive(Drop)]
+pub struct InOrder {
+    pub map: OrderedMap<u64>,
+    pub alloc: Global,
+}
+
+impl Change for InOrder {
+    type Answer = Vec<(u64, u64)>;
+
+    fn make(&self, tx: &mut Tx<'_>) -> Result<Vec<(u64, u64)>, Stop> {
+        self.map.to_vec(tx, self.alloc)
+    }
+}
+
+// Maps with room for three keys are filled and read by their order.
+const FILLED: [(Call, Answer); 14] = [
     (Call::Put(6, 60), Answer::Placed(Placed::New)),
     (Call::Put(u64::MAX, 7), Answer::Placed(Placed::New)),
     (Call::Put(5, 50), Answer::Placed(Placed::New)),
@@ -127,35 +209,156 @@ const THREE_KEYS: [(Call, Answer); 22] = [
     (Call::Above(5), Answer::Entry(Some((6, 60)))),
     (Call::Above(6), Answer::Entry(Some((u64::MAX, 7)))),
     (Call::Above(u64::MAX), Answer::Entry(None)),
+];
+
+// One key is left in them.
+const TAKEN: [(Call, Answer); 4] = [
     (Call::Remove(6), Answer::Value(Some(60))),
     (Call::Remove(6), Answer::Value(None)),
     (Call::Above(5), Answer::Entry(Some((u64::MAX, 7)))),
     (Call::Pop, Answer::Entry(Some((5, 51)))),
+];
+
+// They are emptied.
+const EMPTIED: [(Call, Answer); 4] = [
     (Call::Pop, Answer::Entry(Some((u64::MAX, 7)))),
     (Call::Pop, Answer::Entry(None)),
     (Call::First, Answer::Entry(None)),
     (Call::Last, Answer::Entry(None)),
 ];
 
-// Makes the calls, and tells whether they are answered so.
-fn answer_so(me: &mut Me<'_>, maps: Maps, rows: &[(Call, Answer)]) -> Result<bool, GaveUp> {
-    for (call, wanted) in rows {
-        if me.atomically(|tx| call_all(tx, maps, *call))? != Some(*wanted) {
-            return Ok(false);
+const THREE_ITEMS: [(u64, u64); 3] = [(5, 51), (6, 60), (u64::MAX, 7)];
+
+const LAST_ITEM: [(u64, u64); 1] = [(u64::MAX, 7)];
+
+// Makes calls, and tells whether they are answered so, and whether these are the keys and values that are there then.
+#[derive(Drop)]
+struct Rows<'a> {
+    maps: Maps,
+    alloc: Global,
+    rows: &'a [(Call, Answer)],
+    left: &'a [(u64, u64)],
+}
+
+impl Part for Rows<'_> {
+    type Answer = bool;
+
+    fn play(&self, me: &mut Me<'_>, _number: usize) -> Result<bool, GaveUp> {
+        let maps = self.maps;
+        for (call, wanted) in self.rows {
+            let call = *call;
+            if atomically(me, &Ask { maps, call })? != Some(*wanted) {
+                return Ok(false);
+            }
+        }
+        has_these(me, maps, self.alloc, self.left)
+    }
+}
+
+// Whether a map in order has these, and the others as many, or the same where that is one at most.
+fn has_these(
+    me: &mut Me<'_>,
+    maps: Maps,
+    alloc: Global,
+    left: &[(u64, u64)],
+) -> Result<bool, GaveUp> {
+    let (hashed, ordered, set) = atomically(me, &Count { maps })?;
+    let map = maps.ordered;
+    let sorted = atomically(me, &InOrder { map, alloc })?;
+    let map = maps.hashed;
+    let items = atomically(me, &Items { map, alloc })?;
+    let same = hashed as usize == left.len() && ordered == hashed && set == hashed;
+    Ok(same && sorted.as_slice() == left && (left.len() > 1 || items.as_slice() == left))
+}
+
+// What is read of a key between runs.
+fn read(memory: &Memory, maps: Maps, key: u64) -> Result<(Option<u64>, Option<u64>, bool), Failed> {
+    let hashed = maps.hashed.read(memory, key)?;
+    let ordered = maps.ordered.read(memory, key)?;
+    let set = maps.set.read(memory, key)?;
+    Ok((hashed, ordered, set))
+}
+
+// Whether three keys are read between runs.
+fn are_read(memory: &Memory, maps: Maps, alloc: Global) -> Result<bool, Failed> {
+    let keys = maps.set.read_all(memory, alloc)?;
+    let sorted = maps.ordered.read_all(memory, alloc)?;
+    let six = read(memory, maps, 6)?;
+    let one = read(memory, maps, 1)?;
+    Ok(
+        six == (Some(60), Some(60), true)
+            && one == (None, None, false)
+            && keys.as_slice() == [5, 6, u64::MAX].as_slice()
+            && sorted.as_slice() == THREE_ITEMS.as_slice(),
+    )
+}
+
+// Whether one is read between runs.
+fn is_read(memory: &Memory, maps: Maps, alloc: Global) -> Result<bool, Failed> {
+    let items = maps.hashed.read_all(memory, alloc)?;
+    Ok(items.as_slice() == LAST_ITEM.as_slice())
+}
+
+impl<'a> Rows<'a> {
+    fn of(
+        maps: Maps,
+        alloc: Global,
+        rows: &'a [(Call, Answer)],
+        left: &'a [(u64, u64)],
+    ) -> Rows<'a> {
+        Rows {
+            maps,
+            alloc,
+            rows,
+            left,
         }
     }
-    Ok(true)
+}
+
+// Whether maps of three keys are filled, read and emptied so.
+fn of_three_keys<R: Threads + Sync>(
+    rt: &R,
+    alloc: Global,
+    memory: &mut Memory,
+) -> Result<bool, Failed> {
+    let maps = maps_of(memory, 3)?;
+    let room = maps.hashed.capacity() == 3 && maps.ordered.capacity() == 3;
+    Ok(
+        room && maps.set.capacity() == 3
+            && is_so(rt, memory, &Rows::of(maps, alloc, &[], &[]))?
+            && is_so(rt, memory, &Rows::of(maps, alloc, &FILLED, &THREE_ITEMS))?
+            && are_read(memory, maps, alloc)?
+            && is_so(rt, memory, &Rows::of(maps, alloc, &TAKEN, &LAST_ITEM))?
+            && is_read(memory, maps, alloc)?
+            && is_so(rt, memory, &Rows::of(maps, alloc, &EMPTIED, &[]))?,
+    )
 }
 
 #[test]
 fn maps_of_three_keys(rt: HostRuntime) -> Result<(), Fail> {
-    for manager in [None, Some(Manager::Polka)] {
-        let mut memory = memory_by(rt.alloc(), manager);
-        let maps = maps_of(&mut memory, 3)?;
-        assert!(rt; maps.hashed.capacity() == 3 && maps.ordered.capacity() == 3);
-        let same = memory.run_each(&rt, 1, |me, _| answer_so(me, maps, &THREE_KEYS))?;
-        assert!(rt; same.as_slice() == [true].as_slice());
-    }
+    let alloc = rt.alloc();
+    assert!(rt; of_three_keys(&rt, alloc, &mut memory_by(alloc, None))?);
+    let by = Some(Manager::Polka);
+    assert!(rt; of_three_keys(&rt, alloc, &mut memory_by(alloc, by))?);
+    Ok(())
+}
+
+// Whether maps of this memory are foreign to another one.
+fn are_foreign(alloc: Global, memory: &mut Memory) -> Result<bool, Failed> {
+    let maps = maps_of(memory, 5)?;
+    let other = Memory::new(alloc);
+    Ok(
+        matches!(maps.hashed.read(&other, 7), Err(Failed::Foreign))
+            && matches!(maps.ordered.read_all(&other, alloc), Err(Failed::Foreign)),
+    )
+}
+
+#[test]
+fn maps_of_another_memory_are_foreign(rt: HostRuntime) -> Result<(), Fail> {
+    let alloc = rt.alloc();
+    assert!(rt; are_foreign(alloc, &mut memory_by(alloc, None))?);
+    let by = Some(Manager::Polka);
+    assert!(rt; are_foreign(alloc, &mut memory_by(alloc, by))?);
     Ok(())
 }
 
@@ -244,42 +447,70 @@ pub fn expected(plain: &mut BTreeMap<u64, u64>, call: Call, room: u32) -> Result
     }
 }
 
-// Fifty calls on empty maps with room for twelve keys, and twelve that empty them; and whether all are answered alike.
-fn beside_std(me: &mut Me<'_>, maps: Maps, alloc: Global, seed: &mut u64) -> Result<bool, GaveUp> {
-    let mut plain = BTreeMap::new(alloc);
-    for number in 0..62u32 {
-        let call = if number < 50 {
-            call_of(draw(seed))
-        } else {
-            Call::Pop
-        };
-        let wanted = expected(&mut plain, call, 12)?;
-        if me.atomically(|tx| call_all(tx, maps, call))? != Some(wanted) {
-            return Ok(false);
-        }
-    }
-    Ok(plain.is_empty())
+// Maps with room for twelve keys, and how often they are taken through fifty calls.
+#[derive(Drop)]
+struct BesideStd {
+    maps: Maps,
+    alloc: Global,
+    rounds: u32,
 }
 
-fn all_beside_std(me: &mut Me<'_>, maps: Maps, alloc: Global, rounds: u32) -> Result<bool, GaveUp> {
-    let mut seed = 1;
-    for _ in 0..rounds {
-        if !beside_std(me, maps, alloc, &mut seed)? {
-            return Ok(false);
+impl BesideStd {
+    // Fifty calls on the empty maps, and twelve that empty them; and whether all are answered as by the map of std.
+    fn once(&self, me: &mut Me<'_>, seed: &mut u64) -> Result<bool, GaveUp> {
+        let maps = self.maps;
+        let mut plain = BTreeMap::new(self.alloc);
+        for number in 0..62u32 {
+            let call = if number < 50 {
+                call_of(draw(seed))
+            } else {
+                Call::Pop
+            };
+            let wanted = expected(&mut plain, call, 12)?;
+            if atomically(me, &Ask { maps, call })? != Some(wanted) {
+                return Ok(false);
+            }
         }
+        Ok(plain.is_empty())
     }
-    Ok(true)
+}
+
+impl Part for BesideStd {
+    type Answer = bool;
+
+    fn play(&self, me: &mut Me<'_>, _number: usize) -> Result<bool, GaveUp> {
+        let mut seed = 1;
+        for _ in 0..self.rounds {
+            if !self.once(me, &mut seed)? {
+                return Ok(false);
+            }
+        }
+        Ok(true)
+    }
+}
+
+// Whether maps do what that of std does, in so many rounds.
+fn are_as_std<R: Threads + Sync>(
+    rt: &R,
+    alloc: Global,
+    memory: &mut Memory,
+    rounds: u32,
+) -> Result<bool, Failed> {
+    let maps = maps_of(memory, 12)?;
+    let part = BesideStd {
+        maps,
+        alloc,
+        rounds,
+    };
+    is_so(rt, memory, &part)
 }
 
 #[test]
 fn maps_do_what_that_of_std_does(rt: HostRuntime) -> Result<(), Fail> {
     let alloc = rt.alloc();
-    for (manager, rounds) in [(None, 2_000), (Some(Manager::Karma), 200)] {
-        let mut memory = memory_by(alloc, manager);
-        let maps = maps_of(&mut memory, 12)?;
-        let same = memory.run_each(&rt, 1, |me, _| all_beside_std(me, maps, alloc, rounds))?;
-        assert!(rt; same.as_slice() == [true].as_slice());
-    }
+    assert!(rt; are_as_std(&rt, alloc, &mut memory_by(alloc, None), 2_000)?);
+    let by = Some(Manager::Karma);
+    assert!(rt; are_as_std(&rt, alloc, &mut memory_by(alloc, by), 200)?);
     Ok(())
 }
 

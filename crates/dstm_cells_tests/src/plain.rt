@@ -70,6 +70,16 @@ pub fn run_each<R: Threads + Sync, P: Part + Sync>(
     memory.run_each(rt, threads, |me, number| part.play(me, number))
 }
 
+/// One thread does this, and tells whether all was as it was to be.
+pub fn is_so<R: Threads + Sync, P: Part<Answer = bool> + Sync>(
+    rt: &R,
+    memory: &mut Memory,
+    part: &P,
+) -> Result<bool, Failed> {
+    let told = run_each(rt, memory, 1, part)?;
+    Ok(matches!(told.as_slice(), [true]))
+}
+
 // Whether that is left on a memory which is to be.
 fn is_left<T: Trial + Sync, R: Threads + Sync>(
     rt: &R,

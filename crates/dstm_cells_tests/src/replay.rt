@@ -1,12 +1,12 @@
 // Maps that four threads change, and the same calls made one after the other on the map of std.
-use crate::maps::{Answer, Call, Maps, call_all, expected, maps_of};
-use crate::plain::memory_by;
+use crate::maps::{Answer, Call, InOrder, Maps, call_all, expected, maps_of};
+use crate::plain::{Change, Part, add, atomically, cell_of, memory_by, run_each};
 use crate::queues::draw;
-use dstm_cells::{Cell, GaveUp, Manager, Me, Stop, Tx};
-use dstm_structures::OrderedMap;
+use dstm_cells::{Cell, Failed, GaveUp, Manager, Me, Memory, Stop, Tx};
 use std::alloc::Global;
 use std::collections::BTreeMap;
 use std::test::Fail;
+use std::thread::Threads;
 
 const KEYS: u32 = 1_000;
 
@@ -34,42 +34,60 @@ fn call_of(drawn: u64) -> Call {
 }
 
 // Makes a call and draws its number, in one transaction.
-fn call_and_draw(tx: &mut Tx<'_>, next: Cell<u64>, maps: Maps, call: Call) -> Result<Drawn, Stop> {
-    let answer = call_all(tx, maps, call)?;
-    let number = tx.update(next, |number| number.wrapping_add(1))?;
-    Ok(Drawn {
-        number,
-        call,
-        answer,
-    })
-}
-
-// Makes a thread's calls.
-fn make_all(
-    me: &mut Me<'_>,
-    next: Cell<u64>,
+#[derive(Drop)]
+struct Ask {
     maps: Maps,
-    alloc: Global,
-    thread: usize,
-) -> Result<Vec<Drawn>, GaveUp> {
-    let mut seed = thread as u64;
-    let mut made = Vec::new(alloc);
-    for _ in 0..CALLS_OF_EACH {
-        let call = call_of(draw(&mut seed));
-        let drawn = me.atomically(|tx| call_and_draw(tx, next, maps, call))?;
-        if made.push(drawn).is_err() {
-            return Err(GaveUp::Memory);
-        }
-    }
-    Ok(made)
+    next: Cell<u64>,
+    call: Call,
 }
 
-fn items_of(
-    me: &mut Me<'_>,
-    map: OrderedMap<u64>,
+impl Change for Ask {
+    type Answer = Drawn;
+
+    fn make(&self, tx: &mut Tx<'_>) -> Result<Drawn, Stop> {
+        let answer = call_all(tx, self.maps, self.call)?;
+        let number = add(tx, self.next, 1)?;
+        Ok(Drawn {
+            number,
+            call: self.call,
+            answer,
+        })
+    }
+}
+
+// A thread's calls, which it draws.
+#[derive(Drop)]
+struct AskOften {
+    maps: Maps,
+    next: Cell<u64>,
     alloc: Global,
-) -> Result<Vec<(u64, u64)>, GaveUp> {
-    me.atomically(|tx| map.to_vec(tx, alloc))
+}
+
+impl Part for AskOften {
+    type Answer = Vec<Drawn>;
+
+    fn play(&self, me: &mut Me<'_>, thread: usize) -> Result<Vec<Drawn>, GaveUp> {
+        let maps = self.maps;
+        let next = self.next;
+        let mut seed = thread as u64;
+        let mut made = Vec::new(self.alloc);
+        for _ in 0..CALLS_OF_EACH {
+            let call = call_of(draw(&mut seed));
+            let drawn = atomically(me, &Ask { maps, next, call })?;
+            if made.push(drawn).is_err() {
+                return Err(GaveUp::Memory);
+            }
+        }
+        Ok(made)
+    }
+}
+
+impl Part for InOrder {
+    type Answer = Vec<(u64, u64)>;
+
+    fn play(&self, me: &mut Me<'_>, _number: usize) -> Result<Vec<(u64, u64)>, GaveUp> {
+        atomically(me, self)
+    }
 }
 
 // The calls of all threads, in the order of their numbers.
@@ -112,24 +130,39 @@ fn has_items(plain: &BTreeMap<u64, u64>, items: &[(u64, u64)]) -> bool {
     rest.next().is_none()
 }
 
+// Whether a map of std answers these calls alike, made in their order, and has what one thread has found then.
+fn is_what_std_leaves(
+    alloc: Global,
+    made: &[Vec<Drawn>],
+    found: &[Vec<(u64, u64)>],
+) -> Result<bool, GaveUp> {
+    let mut plain = BTreeMap::new(alloc);
+    let calls = in_order(alloc, made)?;
+    let [items] = found else {
+        return Ok(false);
+    };
+    Ok(answers_alike(&mut plain, &calls)? && has_items(&plain, items))
+}
+
+// Whether four threads leave what their calls leave in turn.
+fn is_in_turn<R: Threads + Sync>(
+    rt: &R,
+    alloc: Global,
+    memory: &mut Memory,
+) -> Result<bool, Failed> {
+    let maps = maps_of(memory, KEYS)?;
+    let next = cell_of(memory, 0u64)?;
+    let made = run_each(rt, memory, THREADS, &AskOften { maps, next, alloc })?;
+    let map = maps.ordered;
+    let found = run_each(rt, memory, 1, &InOrder { map, alloc })?;
+    Ok(matches!(is_what_std_leaves(alloc, &made, &found), Ok(true)))
+}
+
 #[test]
 fn four_threads_leave_what_their_calls_leave_in_turn(rt: HostRuntime) -> Result<(), Fail> {
     let alloc = rt.alloc();
-    for manager in [None, Some(Manager::Polka)] {
-        let mut memory = memory_by(alloc, manager);
-        let maps = maps_of(&mut memory, KEYS)?;
-        let next = memory.cell(0u64)?;
-        let made = memory.run_each(&rt, THREADS, |me, thread| {
-            make_all(me, next, maps, alloc, thread)
-        })?;
-        let items = memory.run_each(&rt, 1, |me, _| items_of(me, maps.ordered, alloc))?;
-        let mut plain = BTreeMap::new(alloc);
-        let calls = in_order(alloc, &made)?;
-        assert!(rt; answers_alike(&mut plain, &calls)?);
-        assert!(rt; items.len() == 1);
-        for items in &items {
-            assert!(rt; has_items(&plain, items));
-        }
-    }
+    assert!(rt; is_in_turn(&rt, alloc, &mut memory_by(alloc, None))?);
+    let by = Some(Manager::Polka);
+    assert!(rt; is_in_turn(&rt, alloc, &mut memory_by(alloc, by))?);
     Ok(())
 }
