@@ -14,12 +14,13 @@ use std::time::{Clock, Instant};
 // Keys are below this. The map has room for all of them, and in the beginning it has the even ones.
 const KEYS: u32 = 65_536;
 
-// In how many runs the map is filled, and in how many it is timed: by DSTM a thread has 65,536 attempts in a run.
+// In how many runs the map is filled.
 const FILLS: u32 = 4;
 
+// In how many runs one thread is timed; two threads make half as many.
 const RUNS: u32 = 16;
 
-// The transactions that all threads of a run make together.
+// The transactions of a thread in a run: by DSTM it has 65,536 attempts there.
 const TRANSACTIONS: u32 = 60_000;
 
 #[derive(Clone, Copy)]
@@ -76,18 +77,18 @@ fn time<R: Threads + Clock + Sync>(
     for part in 0..FILLS {
         memory.run(rt, 1, |me, _| fill(me, map, part))?;
     }
-    let count = TRANSACTIONS / threads;
+    let runs = RUNS / threads;
     let mut nanos = 0.0;
-    for run in 0..RUNS {
+    for run in 0..runs {
         let begun = Instant::now(rt)?;
         let spans = memory.run_each(rt, threads, |me, number| {
             let first = since(rt, begun);
-            make_all(me, map, looks, count, seed_of(run, number))?;
+            make_all(me, map, looks, seed_of(run, number))?;
             Ok((first, since(rt, begun)))
         })?;
         nanos += whole(&spans);
     }
-    Ok(nanos / f64::from(RUNS * TRANSACTIONS))
+    Ok(nanos / (f64::from(runs) * f64::from(threads) * f64::from(TRANSACTIONS)))
 }
 
 // Puts a part of the even keys in.
@@ -106,9 +107,9 @@ fn seed_of(run: u32, number: usize) -> u64 {
 }
 
 // Makes so many transactions.
-fn make_all(me: &mut Me<'_>, map: Map, looks: u32, count: u32, seed: u64) -> Result<(), GaveUp> {
+fn make_all(me: &mut Me<'_>, map: Map, looks: u32, seed: u64) -> Result<(), GaveUp> {
     let mut seed = seed;
-    for _ in 0..count {
+    for _ in 0..TRANSACTIONS {
         let drawn = draw(&mut seed, 200 * KEYS);
         me.atomically(|tx| make(tx, map, looks, drawn))?;
     }
