@@ -21,7 +21,6 @@ import signal
 import subprocess
 import sys
 import tempfile
-import time
 from collections import Counter, namedtuple
 from pathlib import Path
 
@@ -56,6 +55,19 @@ fn plant_end(of: PlantEnd) -> (PlantEnd, PlantEnd) {
 }
 """
 NAMES = re.compile(r"has no field|is not in scope|has no `|was not admitted|not checked|is no name")
+GONE = re.compile(r"module `\S+\.(?:Goals|Given)` has no")
+
+
+def seconds_of(session):
+    """Returns the processor seconds that the processes of this session have taken."""
+    ticks = 0
+    for file in Path("/proc").glob("[0-9]*/stat"):
+        try:
+            words = file.read_text().rsplit(")", 1)[1].split()
+        except OSError:
+            continue
+        ticks += sum(map(int, words[11:15])) * (int(words[3]) == session)
+    return ticks / os.sysconf("SC_CLK_TCK")
 
 
 def close_of(text, at):
@@ -158,10 +170,11 @@ def copy_of(crate, file, f, text, turned):
         return None
     module = file.relative_to(crate / "src").with_suffix("").as_posix()
     module = crate / "proofs" / re.sub(r"^(lib|main)$|/?\bmod$", "", module)
-    # (the folder of a function that calls itself has a mark before its name)
-    proofs = [*module.glob(f"*/{f.name}"), *module.glob(f"*/+{f.name}")] if f.block else []
+    # (the folder of a function that calls itself has a mark before its name; a type may stand in another module)
+    names = (f.name, f"+{f.name}")
+    proofs = [it for top in (module, crate / "proofs") for name in names for it in top.glob(f"**/{name}") if f.block]
     proofs = [it for it in proofs if re.search(rf"\b{it.parent.name}\b", f.block)]
-    proofs += [it for it in (module / f.name, module / f"+{f.name}") if it.is_dir()]
+    proofs += [it for it in (module / name for name in names) if it.is_dir()]
     end = f.end + len(turned) - len(text)
     behind, folder = f.named + len(f.name), proofs[0] if proofs else None
     head, same = text[f.start : f.named], text[behind : f.end + 1]
@@ -432,14 +445,22 @@ class Room:
                 (there := self.crate.parents[1] / built).parent.mkdir(exist_ok=True)
                 # (rt tells by the times of files what it has to do again)
                 subprocess.run(["cp", "-a", "--reflink=auto", TOP / built, there], check=True)
-        self.jobs, self.seconds, self.until = ["--jobs", str(jobs)] if jobs else [], seconds, None
-        self.names = []
+        self.jobs, self.seconds, self.most = ["--jobs", str(jobs)] if jobs else [], seconds, 0
+        # What a check calls functions by, the number of each copy, which it keeps, so that what was checked of it stays
+        # so, and the proof files from which answers were taken away.
+        self.names, self.numbers, self.cut = [], {}, {}
 
     def check(self, *words, folder=None):
         how = {"cwd": folder or self.crate, "stdout": subprocess.PIPE, "stderr": subprocess.STDOUT, "encoding": "utf-8"}
         ran = subprocess.Popen(["rt", "check", *words, *self.jobs], **how, errors="replace", start_new_session=True)
         try:
-            said = ran.communicate(timeout=max(1, self.until - time.monotonic()) if self.until else None)[0]
+            said = None
+            while said is None:
+                try:
+                    said = ran.communicate(timeout=5)[0]
+                except subprocess.TimeoutExpired:
+                    if self.most and seconds_of(ran.pid) > self.most:
+                        raise
         except BaseException:
             os.killpg(ran.pid, signal.SIGKILL)
             ran.communicate()
@@ -456,17 +477,20 @@ class Room:
                 lies = any(where == file and line <= at < behind for where, at in errors) and block[:4] != "use "
                 kept += [] if lies else [block]
                 line, dropped = behind, dropped + lies
-            (self.crate / file).write_text("\n\n".join(kept), encoding="utf-8")
+            self.cut[file] = "\n\n".join(kept)
+            (self.crate / file).write_text(self.cut[file], encoding="utf-8")
         return dropped
 
     def there(self, path):
         return self.crate / path.relative_to(self.here)
 
-    def name_of(self, f):
-        """Returns what a check calls this function, from the module on, or nothing."""
+    def called(self, f):
+        """Returns what a check should call this function, from the module on."""
         module = re.sub(r"^(lib|main)$|/?\bmod$", "", f.file.relative_to(self.here / "src").with_suffix("").as_posix())
-        name = "/".join(it for it in (module, owner_of(f.block) if f.block else "", f.name) if it)
-        return name if name in self.names else None
+        return "/".join(it for it in (module, owner_of(f.block) if f.block else "", f.name) if it)
+
+    def name_of(self, f):
+        return name if (name := self.called(f)) in self.names else None
 
     def restore(self):
         for part in [part for part in ("src", "specs", "proofs") if (self.here / part).is_dir()]:
@@ -479,27 +503,41 @@ class Room:
         yield from ((it, "no source", "") for it in bodies if it not in compile)
         place = lambda it: it.copy and (it.copy.file, it.copy.at)
         has_answers = lambda it: it.copy.proofs and (it.copy.proofs / "Answers.antt").exists()
-        rights = {place(it): it._replace(copy=it.copy._replace(tail=it.copy.same)) for it in compile if it.copy}
-        # What is answered in proof files is looked at without the tactics: these do the same in a copy as in the place.
-        holds = self.by_batches([it for it in rights.values() if has_answers(it)], many, True)
-        sound = {place(it) for it, kind, why in holds if kind == "proved" or (kind, why) == ("not judged", "")}
-        proved = self.by_batches([it for it in rights.values() if not has_answers(it)], many)
-        sound |= {place(it) for it, kind, _ in proved if kind == "proved"}
-        copies = [it for it in compile if place(it) in sound]
-        # The tactics take long where a goal is false, so answers in proof files are looked at without them first.
-        for it, kind, why in self.by_batches([it for it in copies if has_answers(it)], many, True):
-            if kind == "clause":
-                copies.remove(it)
-                yield it, kind, why
-        yield from self.by_batches(copies, many)
+        copies, sound, doubtful = [it for it in compile if it.copy], set(), set()
+        # What is answered in proof files is looked at first, without the tactics: these do the same in a copy as in the
+        # place, and take long where a goal is false. Each function's right body is asked before its wrong ones.
+        for is_quick in (True, False):
+            asked, left = {}, []
+            for it in copies:
+                if has_answers(it) or not is_quick:
+                    right = it._replace(copy=it.copy._replace(tail=it.copy.same))
+                    asked.setdefault(place(it), [] if place(it) in sound else [right]).append(it)
+                else:
+                    left.append(it)
+            for it, kind, why in self.by_batches(sum(asked.values(), []), many, is_quick):
+                if it.copy.tail == it.copy.same:
+                    is_sound = kind == "proved" or is_quick and (kind, why) == ("not judged", "")
+                    (sound if is_sound else doubtful).add(place(it))
+                elif place(it) in sound and not (is_quick and kind == "not judged"):
+                    yield it, kind, why
+                elif place(it) in sound:
+                    left.append(it)
+            copies = left
         # (where a copy of the right body is not proved, that of a wrong one shows nothing)
-        if rest := [it for it in compile if place(it) not in sound]:
+        if rest := [it for it in compile if not it.copy or place(it) in doubtful]:
+            self.learn_names({(f.file, f.start): f for it in rest for f in it.only or []}.values())
+            yield from self.in_place(rest)
+
+    def learn_names(self, functions):
+        """Learns by which names a check knows these functions, which are right."""
+        names = [self.called(it) for it in functions]
+        said = self.check(*(word for name in names for word in ("--only", name.replace("/", "::"))))[1] if names else ""
+        if not (found := re.findall(r"(?m)^fn \w+?::(\S+): proved", said)):
             status, said = self.check()
             if status:
                 sys.exit(f"edits/plant.py: {self.crate.name} is not proved as it stands")
-            self.names = re.findall(r"(?m)^fn \w+?::(\S+): proved", said.replace("+", ""))
-            self.names = [it.replace("::", "/") for it in self.names]
-            yield from self.in_place(rest)
+            found = re.findall(r"(?m)^fn \w+?::(\S+): proved", said)
+        self.names = [it.replace("+", "").replace("::", "/") for it in found]
 
     def in_place(self, bodies):
         """Gives what became of bodies that stand in the place of the right ones: one a check of each function."""
@@ -536,7 +574,7 @@ class Room:
         names = {(it.edit[0], it.edit[4].start): name for name, it in round.items()}
         lines = {at: names[f] for at, f in self.edited(round.values(), self.crate).items()}
         left, found = [*round], {}
-        self.until = self.seconds and time.monotonic() + 120 + self.seconds * len(left)
+        self.most = self.seconds and 120 + self.seconds * len(left)
         try:
             for times in range(6):
                 said = self.check(*(word for name in left for word in ("--only", name.replace("/", "::"))))[1]
@@ -552,14 +590,15 @@ class Room:
         except subprocess.TimeoutExpired:
             return None
         finally:
-            self.until = None
+            self.most = 0
             self.restore()
 
     def by_batches(self, bodies, many, is_quick=False):
         batches = [bodies[at : at + many] for at in range(0, len(bodies), many)]
-        for batch in batches:
+        while batches:
+            batch = batches.pop(0)
             if (found := self.together(batch, is_quick)) is None and len(batch) > 1:
-                batches += [batch[: len(batch) // 2], batch[len(batch) // 2 :]]
+                batches[:0] = [batch[: len(batch) // 2], batch[len(batch) // 2 :]]
             else:
                 found = found or [("not judged", "its check has no end")]
                 yield from ((it, *verdict) for it, verdict in zip(batch, found))
@@ -571,7 +610,8 @@ class Room:
         """Puts these bodies beside their functions, as functions of other names. Gives names and the lines of each."""
         if not crate:
             self.restore()
-        names, lines, texts = [f"{it.copy.name}_plant{n}" for n, it in enumerate(bodies)], {}, {}
+        number = lambda it: self.numbers.setdefault((it.file, it.at, it.tail), len(self.numbers))
+        names, lines, texts = [f"{it.copy.name}_plant{number(it.copy)}" for it in bodies], {}, {}
         for name, (_, _, _, _, copy, _) in zip(names, bodies):
             was, added = texts.get(copy.file) or (copy.file.read_text(encoding="utf-8"), [])
             tail = re.sub(rf"(?<![\w.:])((?:self\.|Self::)?){copy.name}\(", rf"\1{name}(", copy.tail)
@@ -583,7 +623,7 @@ class Room:
                 shutil.copytree(copy.proofs, to := self.proofs_of(name, copy))
                 for file in to.rglob("*.antt"):
                     text = re.sub(rf"(?<!\w){own}(?!\w)", lambda it: it[0][: -len(copy.name)] + name, file.read_text())
-                    file.write_text(text, encoding="utf-8")
+                    file.write_text(self.cut.get(str(file.relative_to(self.crate)), text), encoding="utf-8")
         for file, (was, added) in texts.items():
             text, behind = "", 0
             for at, name, said in sorted(added):
@@ -641,14 +681,15 @@ class Room:
         """Returns what became of each of these bodies, which compile, or nothing if the check has no end."""
         names, lines = self.put([without_tactics(it) for it in bodies] if is_quick else bodies)
         left, found = [*names], {}
-        self.until = self.seconds and time.monotonic() + 120 + self.seconds * len(left)
+        self.most = self.seconds and 120 + self.seconds * len(left)
         try:
             for times in range(6):
                 said = self.check(*(word for name in left for word in ("--only", name)))[1]
                 if not re.search(r"(?m)^(only=|rattle: no verdict)", said):
                     return None
+                cut = {word.strip("+") for file in self.cut for word in file.split("/")}
                 for name, part in parts_of_check(said, left, {} if is_quick else lines).items():
-                    if verdict := self.verdict(part, times):
+                    if verdict := self.verdict(part, times or name in cut):
                         found[name] = verdict
                         left.remove(name)
                 if not left or is_quick:
@@ -657,14 +698,14 @@ class Room:
         except subprocess.TimeoutExpired:
             return None
         finally:
-            self.until = None
+            self.most = 0
             self.take(names, bodies)
 
     def alone(self, body):
         """Returns what became of a body, which stands in the place of the right one."""
         for file, text in body.texts.items():
             self.there(file).write_text(text, encoding="utf-8")
-        self.until = self.seconds and time.monotonic() + 120 + self.seconds
+        self.most = self.seconds and 120 + self.seconds
         names = [self.name_of(it) for it in body.only or []]
         names = [] if None in names else [it.replace("/", "::") for it in names]
         try:
@@ -680,7 +721,7 @@ class Room:
         except subprocess.TimeoutExpired:
             return "not judged", "its checks take longer than they may"
         finally:
-            self.until = None
+            self.most = 0
             self.restore()
 
     def verdict(self, said, times):
@@ -696,6 +737,9 @@ class Room:
         own = [name for name in dict.fromkeys(false) if "-requires" not in name]
         if false and (own or not errors):
             return ("open" if is_open and own else "clause" if own else "elsewhere"), ", ".join(own or false)
+        # An answer of a goal that is gone is not missed. One that names what is gone leaves its goal without an answer.
+        if missed := [name for _, _, name, what in errors if not GONE.search(what)]:
+            return "open", "no answer to " + ", ".join(filter(None, dict.fromkeys(missed)))
         if self.drop([(file, int(line)) for file, line, _, _ in errors]):
             return None
         return "not judged", "a proof file names what is gone" * bool(errors)
