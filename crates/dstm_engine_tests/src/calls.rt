@@ -5,7 +5,7 @@ ghost use Rattle.dstm_core.specs.Words.{IsValid};
 ghost use Rattle.dstm_engine.specs.Callers.{is_live, shape_of};
 ghost use Rattle.dstm_engine_tests.specs.Attempts.{GoesOn, IsSound};
 
-use crate::attempts::{Attempt, low, open};
+use crate::attempts::{Attempt, End, Step, alternate, low, play};
 use dstm_core::{Manager, Shape};
 use dstm_engine::{Caller, Founder, Spent, Stm, Tally, Tx};
 use dstm_mem::Mem;
@@ -15,6 +15,10 @@ use std::alloc::Global;
 use std::test::Fail;
 
 pub type Answer = crate::attempts::Answer<Again>;
+
+pub type Found = crate::attempts::Found<Again>;
+
+pub type Done = crate::attempts::Done<Again>;
 
 // A table of zeros with two callers.
 #[derive(Drop)]
@@ -79,7 +83,8 @@ pub fn caller<L: Law>(
     founder: &mut Founder<L>,
 ) -> Result<Caller<L>, Fail>
     requires table { founder.old.home ≡ stm.now }
-    ensures table { founder.new.home ≡ founder.old.home }
+    ensures table { founder.new.home ≡ stm.now }
+    ensures guests { founder.new.guests ≡ founder.old.guests }
     ensures caller { IfOk result (λ k. k.home ≡ stm.now) }
 {
     match founder.caller(alloc, stm, 0) {
@@ -99,20 +104,6 @@ pub fn begin<'a>(caller: &'a mut Caller<AnyLaw>, stm: &'a Stm<AnyLaw>) -> Option
     match caller.begin(stm) {
         Ok(tx) => Some(tx),
         Err(Spent) => None,
-    }
-}
-
-// The caller has no attempt left.
-pub fn is_spent(caller: &mut Caller<AnyLaw>, stm: &Stm<AnyLaw>) -> bool
-    requires table { caller.old.home ≡ stm.now }
-    ensures home { caller.new.home ≡ stm.now }
-{
-    match caller.begin(stm) {
-        Ok(tx) => {
-            drop_early(tx);
-            false
-        }
-        Err(Spent) => true,
     }
 }
 
@@ -143,26 +134,92 @@ pub fn commit(tx: Tx<'_, AnyLaw>) -> Answer
     Some(tx.commit())
 }
 
-// Lets an attempt go that has not ended.
-pub fn drop_early(tx: Tx<'_, AnyLaw>)
+// Quits an attempt.
+pub fn abandon(tx: Tx<'_, AnyLaw>)
     ensures home { tx.exit.0.now.home ≡ tx.entry.caller.now.home }
 {
-    let _tx = tx;
+    tx.abandon();
 }
 
-// A caller opens the first object and commits: the value, the number and the caller's counts.
-pub fn come(caller: &mut Caller<AnyLaw>, stm: &Stm<AnyLaw>) -> Option<(Answer, Answer, Tally)>
+// Makes an attempt of these steps. None where the caller has none left.
+pub fn once(
+    caller: &mut Caller<AnyLaw>,
+    stm: &Stm<AnyLaw>,
+    steps: [Step; 4],
+    end: End,
+) -> Option<Done>
     requires table { caller.old.home ≡ stm.now }
-    requires objects { 0 < stm.now.terms.shape.objects }
-    ensures home { IfSome result (λ _. caller.new.home ≡ stm.now) }
+    ensures home { caller.new.home ≡ stm.now }
 {
-    let mut tx = begin(caller, stm)?;
-    let value = open(&mut tx, 0);
-    if !tx.is_live() {
+    let mut tx = match caller.begin(stm) {
+        Ok(tx) => tx,
+        Err(Spent) => return None,
+    };
+    let found = play(&mut tx, stm.shape().objects, steps);
+    if matches!(end, End::Drop) || !tx.is_live() {
+        return Some((found, None));
+    }
+    if matches!(end, End::Abandon) {
+        abandon(tx);
+        return Some((found, None));
+    }
+    Some((found, commit(tx)))
+}
+
+// What two attempts were answered that meet: the first one at its steps before the other one, the other one, and the first
+// one behind it.
+pub type Met = ([Found; 4], Option<Done>, Done);
+
+// Makes an attempt of another caller between the steps of one.
+pub fn meet(
+    stm: &Stm<AnyLaw>,
+    one: &mut Caller<AnyLaw>,
+    two: &mut Caller<AnyLaw>,
+    before: [Step; 4],
+    between: [Step; 4],
+    ends: End,
+    behind: [Step; 4],
+    end: End,
+) -> Option<Met>
+    requires homes { (one.old.home ≡ stm.now) × (two.old.home ≡ stm.now) }
+    ensures homes { IfSome result (λ _. (one.new.home ≡ stm.now) × (two.new.home ≡ stm.now)) }
+{
+    let mut a = begin(one, stm)?;
+    let objects = stm.shape().objects;
+    let first = play(&mut a, objects, before);
+    let other = once(two, stm, between, ends);
+    let last = play(&mut a, objects, behind);
+    if matches!(end, End::Drop) || !a.is_live() {
+        return Some((first, other, (last, None)));
+    }
+    if matches!(end, End::Abandon) {
+        abandon(a);
+        return Some((first, other, (last, None)));
+    }
+    Some((first, other, (last, commit(a))))
+}
+
+// What two attempts were answered whose steps alternate, and as each of them committed.
+pub type Crossed = ([Found; 4], [Answer; 2]);
+
+// Two callers begin, one after the other, make steps in turn and commit.
+pub fn cross(
+    stm: &Stm<AnyLaw>,
+    one: &mut Caller<AnyLaw>,
+    two: &mut Caller<AnyLaw>,
+    steps: [Step; 4],
+) -> Option<Crossed>
+    requires homes { (one.old.home ≡ stm.now) × (two.old.home ≡ stm.now) }
+    ensures homes { IfSome result (λ _. (one.new.home ≡ stm.now) × (two.new.home ≡ stm.now)) }
+{
+    let mut a = begin(one, stm)?;
+    let mut b = begin(two, stm)?;
+    let found = alternate(&mut a, &mut b, stm.shape().objects, steps);
+    if !a.is_live() || !b.is_live() {
         return None;
     }
-    let number = commit(tx);
-    Some((value, number, caller.tally()))
+    let commits = [commit(a), commit(b)];
+    Some((found, commits))
 }
 
 pub fn tally(steps: u64, turns: u64, kills: u64) -> Tally {

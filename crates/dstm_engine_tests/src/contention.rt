@@ -1,8 +1,9 @@
 // Callers that meet, under Karma and Greedy.
-ghost use Rattle.std.specs.Prelude.{◌≡◌, ◌≤◌, IfSome};
+ghost use Rattle.std.specs.Prelude.{◌≡◌};
 
-use crate::attempts::{open, read};
-use crate::calls::{Answer, begin, come, commit, shape, tally, two_callers};
+use crate::attempts::{End, Step, low};
+use crate::calls::{Answer, Crossed, Found, cross, meet, once, shape, tally, two_callers};
+use Step::{Nothing, Open, Read};
 use dstm_core::Manager;
 use dstm_engine::{Caller, Stm, Tally};
 use dstm_model::AnyLaw;
@@ -10,116 +11,95 @@ use dstm_order::Again;
 use std::alloc::Global;
 use std::test::Fail;
 
+const NONE: [Step; 4] = [Nothing; 4];
+
+const OPEN_FIRST: [Step; 4] = [Open(0), Nothing, Nothing, Nothing];
+
 // What the one that came to an object of the other was answered as it committed, its counts, and what the other was
 // answered as it committed.
 type Meeting = (Answer, Tally, Answer);
 
-// A caller reads so many objects in an attempt that it abandons.
-fn earn(caller: &mut Caller<AnyLaw>, stm: &Stm<AnyLaw>, reads: u32) -> Option<()>
-    requires table { caller.old.home ≡ stm.now }
-    requires objects { stm.now.terms.shape.objects ≡ 8 }
-    requires few { reads ≤ 5 }
-    ensures home { IfSome result (λ _. caller.new.home ≡ stm.now) }
-{
-    let mut tx = begin(caller, stm)?;
-    for i in 0..reads {
-        let _value = read(&mut tx, 3 + i);
-    }
-    tx.abandon();
-    Some(())
-}
-
-// Under Karma, B reads two objects and opens a third one. A, who has read so many in an attempt that it has abandoned,
-// opens that one too and commits.
+// Under Karma, A has read these in an attempt that it has abandoned. B reads two objects and opens a third one. A opens that
+// one too and commits.
 fn karma(
     stm: &Stm<AnyLaw>,
     one: &mut Caller<AnyLaw>,
     two: &mut Caller<AnyLaw>,
-    reads: u32,
+    earned: [Step; 4],
 ) -> Option<Meeting>
     requires homes { (one.old.home ≡ stm.now) × (two.old.home ≡ stm.now) }
-    requires objects { stm.now.terms.shape.objects ≡ 8 }
-    requires few { reads ≤ 5 }
 {
-    let mut b = begin(two, stm)?;
-    let _values = (read(&mut b, 1), read(&mut b, 2), open(&mut b, 0));
-    earn(one, stm, reads)?;
-    let (_old, number, counts) = come(one, stm)?;
-    if !b.is_live() {
-        return None;
-    }
-    Some((number, counts, commit(b)))
+    let _found = once(one, stm, earned, End::Abandon)?;
+    let opens = [Read(1), Read(2), Open(0), Nothing];
+    let (_found, came, other) = meet(
+        stm,
+        two,
+        one,
+        opens,
+        OPEN_FIRST,
+        End::Commit,
+        NONE,
+        End::Commit,
+    )?;
+    let (_found, number) = came?;
+    let (_found, killed) = other;
+    Some((number, one.tally(), killed))
 }
 
-fn meet_karma(alloc: Global, reads: u32) -> Result<Option<Meeting>, Fail>
-    requires few { reads ≤ 5 }
-{
+fn meet_karma(alloc: Global, earned: [Step; 4]) -> Result<Option<Meeting>, Fail> {
     let mut pair = two_callers(alloc, shape(8, Manager::Karma, false))?;
-    Ok(karma(&pair.stm, &mut pair.one, &mut pair.two, reads))
+    Ok(karma(&pair.stm, &mut pair.one, &mut pair.two, earned))
 }
 
 #[test]
 fn under_karma_a_higher_rank_waits_less(rt: HostRuntime) -> Result<(), Fail> {
     let alloc = rt.alloc();
+    let three = [Read(3), Read(4), Read(5), Nothing];
+    let four = [Read(3), Read(4), Read(5), Read(6)];
     let number = Some(Ok(0));
     let killed = Some(Err(Again::Killed));
-    assert!(rt; meet_karma(alloc, 0)? == Some((number, tally(34, 16, 1), killed)));
-    assert!(rt; meet_karma(alloc, 5)? == Some((number, tally(18, 0, 1), killed)));
-    assert!(rt; meet_karma(alloc, 3)? == Some((number, tally(22, 4, 1), killed)));
+    assert!(rt; meet_karma(alloc, NONE)? == Some((number, tally(34, 16, 1), killed)));
+    assert!(rt; meet_karma(alloc, four)? == Some((number, tally(18, 0, 1), killed)));
+    assert!(rt; meet_karma(alloc, three)? == Some((number, tally(22, 4, 1), killed)));
     Ok(())
 }
 
-// Under Greedy, B opens an object and A comes to it. A began first, and has the older stamp.
-fn greedy_older(
-    stm: &Stm<AnyLaw>,
-    one: &mut Caller<AnyLaw>,
-    two: &mut Caller<AnyLaw>,
-) -> Option<Meeting>
-    requires homes { (one.old.home ≡ stm.now) × (two.old.home ≡ stm.now) }
-    requires objects { stm.now.terms.shape.objects ≡ 2 }
-{
-    let mut a = begin(one, stm)?;
-    let mut b = begin(two, stm)?;
-    let _olds = (open(&mut b, 0), open(&mut a, 0));
-    if !a.is_live() {
-        return None;
-    }
-    let number = commit(a);
-    let counts = one.tally();
-    if !b.is_live() {
-        return None;
-    }
-    Some((number, counts, commit(b)))
-}
-
-// The same, but A draws its stamp after B: since it begins later, or since it begins a new transaction.
+// Under Greedy, B opens an object and A comes to it. A draws its stamp after B: since it begins later, or since it begins a new transaction.
 fn greedy_younger(
     stm: &Stm<AnyLaw>,
     one: &mut Caller<AnyLaw>,
     two: &mut Caller<AnyLaw>,
     anew: bool,
-) -> Option<(Answer, Tally)>
+) -> Option<([Found; 4], Tally)>
     requires homes { (one.old.home ≡ stm.now) × (two.old.home ≡ stm.now) }
-    requires objects { stm.now.terms.shape.objects ≡ 2 }
 {
     if anew {
-        begin(one, stm)?.abandon();
+        let _none = once(one, stm, NONE, End::Abandon);
         one.next_transaction();
     }
-    let mut b = begin(two, stm)?;
-    let _old = open(&mut b, 0);
-    let mut a = begin(one, stm)?;
-    let answer = open(&mut a, 0);
-    drop(a);
-    Some((answer, one.tally()))
+    let (_open, came, _none) = meet(
+        stm,
+        two,
+        one,
+        OPEN_FIRST,
+        OPEN_FIRST,
+        End::Drop,
+        NONE,
+        End::Drop,
+    )?;
+    let (found, _number) = came?;
+    Some((found, one.tally()))
 }
 
-fn meet_younger(alloc: Global) -> Result<Option<Meeting>, Fail> {
+// The same, but A began first, and has the older stamp.
+fn meet_younger(alloc: Global) -> Result<(Option<Crossed>, Tally), Fail> {
     let mut pair = two_callers(alloc, shape(2, Manager::Greedy, false))?;
-    Ok(greedy_older(&pair.stm, &mut pair.one, &mut pair.two))
+    let steps = [Nothing, Open(0), Open(0), Nothing];
+    let met = cross(&pair.stm, &mut pair.one, &mut pair.two, steps);
+    Ok((met, pair.one.tally()))
 }
 
-fn meet_older(alloc: Global, anew: bool) -> Result<Option<(Answer, Tally)>, Fail> {
+fn meet_older(alloc: Global, anew: bool) -> Result<Option<([Found; 4], Tally)>, Fail> {
     let mut pair = two_callers(alloc, shape(2, Manager::Greedy, false))?;
     Ok(greedy_younger(&pair.stm, &mut pair.one, &mut pair.two, anew))
 }
@@ -127,11 +107,16 @@ fn meet_older(alloc: Global, anew: bool) -> Result<Option<(Answer, Tally)>, Fail
 #[test]
 fn under_greedy_the_older_kills_and_the_younger_waits(rt: HostRuntime) -> Result<(), Fail> {
     let alloc = rt.alloc();
-    let met = meet_younger(alloc)?;
-    let killed = Some(Err(Again::Killed));
+    let (met, counts) = meet_younger(alloc)?;
+    let zero = Some(Ok(low(0)));
+    let commits = [Some(Ok(0)), Some(Err(Again::Killed))];
+    assert!(rt; met == Some(([None, zero, zero, None], commits)));
     // As under Karma, but without a new rank after the open.
-    assert!(rt; met == Some((Some(Ok(0)), tally(17, 0, 1), killed)));
-    let waited = Some((Some(Err(Again::Waited)), tally(4_103, 4_096, 0)));
+    assert!(rt; counts == tally(17, 0, 1));
+    let waited = Some((
+        [Some(Err(Again::Waited)), None, None, None],
+        tally(4_103, 4_096, 0),
+    ));
     assert!(rt; meet_older(alloc, false)? == waited);
     assert!(rt; meet_older(alloc, true)? == waited);
     Ok(())

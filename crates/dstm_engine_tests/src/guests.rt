@@ -13,11 +13,12 @@ ghost use Rattle.dstm_engine_tests.specs.Guests.{
   is_store,
 };
 
-use crate::attempts::low;
-use crate::calls::{Answer, come, small, tally};
+use crate::attempts::{End, Step, low};
+use crate::calls::{Done, caller, once, small, tally};
+use crate::founding::{close_plain, retire, table_of};
 use dstm_core::{Event, Kind, Local, Manager, Shape};
-use dstm_engine::{Stm, Tally};
-use dstm_model::AnyLaw;
+use dstm_engine::{Founder, Stm, Tally};
+use dstm_model::{AnyLaw, Val};
 use dstm_words::{CoreSeat, Words};
 use std::alloc::{AllocError, Global};
 use std::test::Fail;
@@ -166,36 +167,62 @@ fn play(
     Ok(seat)
 }
 
-// What a caller gets that opens the guest's object and commits, its number and its counts, and what is left.
-type Outcome = (Answer, Answer, Tally, u64);
+// A guest of a table that has made its first events, up to this one.
+fn stopped(
+    alloc: Global,
+    stm: &Stm<AnyLaw>,
+    founder: &mut Founder<AnyLaw>,
+    shape: &Shape,
+    last: usize,
+) -> Result<CoreSeat<AnyLaw>, Fail>
+    requires table { founder.old.home ≡ stm.now }
+    requires shape { (stm.now.terms.shape ≡ shape.now) × IsValid shape.now }
+    ensures table { founder.new.home ≡ stm.now }
+    ensures guest { IfOk result (IsGuest stm.now) }
+{
+    match founder.guest(stm) {
+        Some(guest) => play(alloc, stm.words(), guest, shape, last),
+        None => Err(Fail::new("no guest")),
+    }
+}
+
+// What a caller gets that opens the guest's object and commits, its counts, and the values that are left. None where there is a
+// second guest.
+type Left = (Option<Done>, Tally, Vec<Val>);
 
 // What a caller gets that comes after this event of the guest.
-fn after_guest(alloc: Global, manager: Manager, last: usize) -> Result<Outcome, Fail> {
+fn come(alloc: Global, manager: Manager, last: usize) -> Result<Left, Fail> {
     let shape = small(2, manager);
-    let start = vec![in alloc; low(5)]?;
-    let (stm, mut founder) = Stm::make(alloc, start, shape, AnyLaw)?;
-    let Some(guest) = founder.guest(&stm) else {
-        return Err(Fail::new("no guest"));
-    };
-    let seat = play(alloc, stm.words(), guest, &shape, last)?;
-    let Ok(caller) = founder.caller(alloc, &stm, 0) else {
-        return Err(Fail::new("no caller"));
-    };
-    if founder.guest(&stm).is_some() {
-        return Err(Fail::new("a second guest"));
-    }
-    let mut one = caller;
-    let Some((value, number, counts)) = come(&mut one, &stm) else {
-        return Err(Fail::new("over"));
-    };
+    let (stm, mut founder) = table_of(alloc, low(5), shape)?;
+    let seat = stopped(alloc, &stm, &mut founder, &shape, last)?;
+    let mut one = caller(alloc, &stm, &mut founder)?;
+    let is_full = founder.guest(&stm).is_none();
+    let opens = [Step::Open(0), Step::Nothing, Step::Nothing, Step::Nothing];
+    let done = once(&mut one, &stm, opens, End::Commit);
+    let counts = one.tally();
     founder.dismiss(&stm, seat);
-    founder.retire(&stm, one);
-    let values = stm.close_plain(alloc, founder)?;
-    Ok((value, number, counts, values[0].low))
+    retire(&mut founder, &stm, one);
+    let values = close_plain(alloc, stm, founder)?;
+    Ok((if is_full { done } else { None }, counts, values))
+}
+
+// What it found and drew, its counts, and what is left.
+type Outcome = (Done, Tally, u64);
+
+fn after_guest(alloc: Global, manager: Manager, last: usize) -> Result<Outcome, Fail> {
+    let (done, counts, values) = come(alloc, manager, last)?;
+    let Some(done) = done else {
+        return Err(Fail::new("spent, or a second guest"));
+    };
+    let [left] = values.as_slice() else {
+        return Err(Fail::new("one object"));
+    };
+    Ok((done, counts, left.low))
 }
 
 fn outcome(value: u64, number: u64, counts: Tally) -> Outcome {
-    (Some(Ok(value)), Some(Ok(number)), counts, value)
+    let found = [Some(Ok(low(value))), None, None, None];
+    ((found, Some(Ok(number))), counts, value)
 }
 
 // The number that the caller draws after this event of the guest, whose Draw is the last but one.
@@ -222,7 +249,7 @@ fn a_guest_that_stops_is_waited_for_and_killed_by_rank(rt: HostRuntime) -> Resul
 fn a_guest_that_stops_is_killed_after_eight_waits(rt: HostRuntime) -> Result<(), Fail> {
     for last in 7..=14 {
         let came = after_guest(rt.alloc(), Manager::Polite, last)?;
-        let turns = came.2.turns;
+        let turns = came.1.turns;
         assert!(rt; (8..=1_020).contains(&turns));
         assert!(rt; came == outcome(5, number_after(last), tally(turns + 16, turns, 1)));
     }

@@ -9,6 +9,8 @@ mod calls;
 #[cfg(test)]
 mod contention;
 #[cfg(test)]
+mod founding;
+#[cfg(test)]
 mod guests;
 pub mod laws;
 #[cfg(test)]

@@ -7,7 +7,7 @@ ghost use Rattle.dstm_engine.specs.Callers.{law_of};
 
 use crate::calls::{Answer, caller};
 use dstm_core::{Manager, Shape};
-use dstm_engine::{Caller, Ended, Spent, Stm, attempt};
+use dstm_engine::{Caller, Ended, Founder, Spent, Stm, attempt};
 use dstm_mem::{Body, LooseBody};
 use dstm_model::{Layout, Op, Ops, Replies, Reply, Which};
 use dstm_order::Again;
@@ -15,9 +15,9 @@ use dstm_store::{JobBody, LooseJobBody, StoreLaw, opening};
 use std::alloc::Global;
 use std::test::Fail;
 
-// A table with a list of five keys, and two callers.
+// A table with a list, and two callers.
 #[derive(Drop)]
-struct FiveKeys {
+struct ListPair {
     stm: Stm<StoreLaw>,
     one: Caller<StoreLaw>,
     two: Caller<StoreLaw>,
@@ -116,12 +116,28 @@ fn look_up_hand_over_hand(
     }
 }
 
-// Makes the table; the keys are inserted one after the other, under the numbers 0 to 4.
-fn five_keys(alloc: Global, layout: &Layout) -> Result<FiveKeys, Fail>
+// Inserts five keys, one after the other.
+fn insert_five(caller: &mut Caller<StoreLaw>, stm: &Stm<StoreLaw>, layout: &Layout) -> [Answer; 5]
+    requires table { caller.old.home ≡ stm.now }
+    requires law { stm.now.terms.law.value.layout ≡ layout.now }
     requires valid { IsValid layout.now }
     requires list { 0 < layout.now.list }
-    ensures tables { IfOk result (λ t. (t.one.home ≡ t.stm) × (t.two.home ≡ t.stm)) }
-    ensures law { IfOk result (λ t. t.stm.terms.law.value.layout ≡ layout.now) }
+    ensures table { caller.new.home ≡ stm.now }
+{
+    [
+        insert(caller, stm, layout, 10),
+        insert(caller, stm, layout, 20),
+        insert(caller, stm, layout, 30),
+        insert(caller, stm, layout, 40),
+        insert(caller, stm, layout, 50),
+    ]
+}
+
+// Makes an empty table and its founder.
+fn table_of(alloc: Global, layout: &Layout) -> Result<(Stm<StoreLaw>, Founder<StoreLaw>), Fail>
+    requires valid { IsValid layout.now }
+    ensures founder { IfOk result (λ t. t.1.home ≡ t.0) }
+    ensures law { IfOk result (λ t. t.0.terms.law.value.layout ≡ layout.now) }
 {
     let start = opening(alloc, layout)?;
     if start.len() > 32 {
@@ -136,20 +152,20 @@ fn five_keys(alloc: Global, layout: &Layout) -> Result<FiveKeys, Fail>
         all_write: false,
     };
     let law = StoreLaw { layout: *layout };
-    let (stm, mut founder) = Stm::make(alloc, start, shape, law)?;
+    Ok(Stm::make(alloc, start, shape, law)?)
+}
+
+// Makes an empty table and two callers.
+fn two_callers(alloc: Global, layout: &Layout) -> Result<ListPair, Fail>
+    requires valid { IsValid layout.now }
+    requires list { 0 < layout.now.list }
+    ensures tables { IfOk result (λ t. (t.one.home ≡ t.stm) × (t.two.home ≡ t.stm)) }
+    ensures law { IfOk result (λ t. t.stm.terms.law.value.layout ≡ layout.now) }
+{
+    let (stm, mut founder) = table_of(alloc, layout)?;
     let one = caller(alloc, &stm, &mut founder)?;
-    let mut two = caller(alloc, &stm, &mut founder)?;
-    let inserted = [
-        insert(&mut two, &stm, layout, 10),
-        insert(&mut two, &stm, layout, 20),
-        insert(&mut two, &stm, layout, 30),
-        insert(&mut two, &stm, layout, 40),
-        insert(&mut two, &stm, layout, 50),
-    ];
-    if inserted != [0, 1, 2, 3, 4].map(|number| Some(Ok(number))) {
-        return Err(Fail::new("not inserted"));
-    }
-    Ok(FiveKeys { stm, one, two })
+    let two = caller(alloc, &stm, &mut founder)?;
+    Ok(ListPair { stm, one, two })
 }
 
 // Room for eight keys.
@@ -160,30 +176,38 @@ const LAYOUT: Layout = Layout {
     tree: 0,
 };
 
+// The numbers under which five keys are inserted on a table of its own, and what is found and told then.
+type Met = ([Answer; 5], Option<(Replies, Answer, Answer)>);
+
+fn meet(alloc: Global, hand_over_hand: bool) -> Result<Met, Fail> {
+    let mut table = two_callers(alloc, &LAYOUT)?;
+    let inserted = insert_five(&mut table.two, &table.stm, &LAYOUT);
+    let found = if hand_over_hand {
+        look_up_hand_over_hand(&mut table.one, &mut table.two, &table.stm, &LAYOUT)
+    } else {
+        look_up(&mut table.one, &mut table.two, &table.stm, &LAYOUT)
+    };
+    Ok((inserted, found))
+}
+
 // The plain walk has read the head of the list, and is overtaken there; hand over hand the head was let go.
 #[test]
 fn a_look_up_hand_over_hand_is_not_overtaken(rt: HostRuntime) -> Result<(), Fail> {
-    let mut table = five_keys(rt.alloc(), &LAYOUT)?;
-    let Some((found, inserted, committed)) = look_up(
-        &mut table.one,
-        &mut table.two,
-        &table.stm,
-        &LAYOUT,
-    ) else {
-        return Err(Fail::new("left"));
-    };
-    assert!(rt; found.as_slice() == [Reply::Yes].as_slice());
-    assert!(rt; (inserted, committed) == (Some(Ok(5)), Some(Err(Again::Stale(0)))));
-    let mut table = five_keys(rt.alloc(), &LAYOUT)?;
-    let Some((found, inserted, committed)) = look_up_hand_over_hand(
-        &mut table.one,
-        &mut table.two,
-        &table.stm,
-        &LAYOUT,
-    ) else {
-        return Err(Fail::new("left"));
-    };
-    assert!(rt; found.as_slice() == [Reply::Yes].as_slice());
-    assert!(rt; (inserted, committed) == (Some(Ok(5)), Some(Ok(6))));
+    let numbers = [
+        Some(Ok(0)),
+        Some(Ok(1)),
+        Some(Ok(2)),
+        Some(Ok(3)),
+        Some(Ok(4)),
+    ];
+    for (hand_over_hand, wanted) in [(false, Err(Again::Stale(0))), (true, Ok(6))] {
+        let (before, met) = meet(rt.alloc(), hand_over_hand)?;
+        assert!(rt; before == numbers);
+        let Some((found, inserted, committed)) = met else {
+            return Err(Fail::new("left"));
+        };
+        assert!(rt; found.as_slice() == [Reply::Yes].as_slice());
+        assert!(rt; (inserted, committed) == (Some(Ok(5)), Some(wanted)));
+    }
     Ok(())
 }

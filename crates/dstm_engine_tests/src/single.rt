@@ -1,135 +1,78 @@
 // One caller alone, under Polite.
-ghost use Rattle.std.specs.Prelude.{◌≡◌, IfOk, IfSome};
+ghost use Rattle.std.specs.Prelude.{◌≡◌, IfOk};
 
-use crate::attempts::{low, read, read_value, set};
-use crate::calls::{Answer, Pair, begin, commit, drop_early, shape, tally, two_callers};
+use crate::attempts::{End, Step, low};
+use crate::calls::{Answer, Done, Pair, once, shape, tally, two_callers};
+use Step::{Nothing, Read, Set};
 use dstm_core::Manager;
 use dstm_engine::{Caller, Stm, Tally};
 use dstm_model::{AnyLaw, Val};
-use dstm_order::Again;
 use std::alloc::Global;
 use std::test::Fail;
-
-// Reads three objects and commits.
-fn three_reads(stm: &Stm<AnyLaw>, one: &mut Caller<AnyLaw>) -> Option<([Answer; 3], Answer, Tally)>
-    requires home { one.old.home ≡ stm.now }
-    requires objects { stm.now.terms.shape.objects ≡ 3 }
-{
-    let mut tx = begin(one, stm)?;
-    let values = [read(&mut tx, 0), read(&mut tx, 1), read(&mut tx, 2)];
-    if !tx.is_live() {
-        return None;
-    }
-    let number = commit(tx);
-    Some((values, number, one.tally()))
-}
-
-// Sets an object in an attempt that is dropped before its end, then in one that commits, and reads it.
-fn dropped(
-    stm: &Stm<AnyLaw>,
-    one: &mut Caller<AnyLaw>,
-) -> Option<(Answer, Answer, Answer, Option<Result<Val, Again>>)>
-    requires home { one.old.home ≡ stm.now }
-    requires objects { stm.now.terms.shape.objects ≡ 3 }
-{
-    let mut tx = begin(one, stm)?;
-    let _old = set(&mut tx, 0, low(9));
-    let unset = read(&mut tx, 0);
-    drop_early(tx);
-    let mut tx = begin(one, stm)?;
-    let old = set(&mut tx, 0, Val { low: 7, high: 8 });
-    if !tx.is_live() {
-        return None;
-    }
-    let number = commit(tx);
-    let mut tx = begin(one, stm)?;
-    Some((unset, old, number, read_value(&mut tx, 0)))
-}
-
-// Reads an object, sets it and commits: what it was.
-fn change(
-    stm: &Stm<AnyLaw>,
-    one: &mut Caller<AnyLaw>,
-    value: Val,
-) -> Option<Option<Result<Val, Again>>>
-    requires home { one.old.home ≡ stm.now }
-    requires objects { stm.now.terms.shape.objects ≡ 3 }
-    ensures home { IfSome result (λ _. one.new.home ≡ stm.now) }
-{
-    let mut tx = begin(one, stm)?;
-    let before = read_value(&mut tx, 0);
-    let _old = set(&mut tx, 0, value);
-    if !tx.is_live() {
-        return None;
-    }
-    let _number = commit(tx);
-    Some(before)
-}
-
-// What an object was before each of three changes of both of its parts.
-fn changed(stm: &Stm<AnyLaw>, one: &mut Caller<AnyLaw>) -> Option<[Option<Result<Val, Again>>; 3]>
-    requires home { one.old.home ≡ stm.now }
-    requires objects { stm.now.terms.shape.objects ≡ 3 }
-{
-    let first = change(stm, one, Val { low: 1, high: 2 })?;
-    let second = change(stm, one, Val { low: 3, high: 4 })?;
-    let third = change(stm, one, low(0))?;
-    Some([first, second, third])
-}
-
-// Reads an object and commits.
-fn one_read(stm: &Stm<AnyLaw>, one: &mut Caller<AnyLaw>) -> Option<(Answer, Answer, Tally)>
-    requires home { one.old.home ≡ stm.now }
-    requires objects { stm.now.terms.shape.objects ≡ 3 }
-{
-    let mut tx = begin(one, stm)?;
-    let value = read(&mut tx, 0);
-    if !tx.is_live() {
-        return None;
-    }
-    let number = commit(tx);
-    Some((value, number, one.tally()))
-}
 
 // A table of three objects.
 fn three_objects(alloc: Global, all_write: bool) -> Result<Pair, Fail>
     ensures one { IfOk result (λ p. p.one.home ≡ p.stm) }
-    ensures objects { IfOk result (λ p. p.stm.terms.shape.objects ≡ 3) }
 {
     two_callers(alloc, shape(3, Manager::Polite, all_write))
 }
 
-fn read_three(alloc: Global) -> Result<Option<([Answer; 3], Answer, Tally)>, Fail> {
-    let mut pair = three_objects(alloc, false)?;
-    Ok(three_reads(&pair.stm, &mut pair.one))
-}
-
-fn drop_one(
+// Makes these steps on a new table and commits.
+fn commit_alone(
     alloc: Global,
-) -> Result<Option<(Answer, Answer, Answer, Option<Result<Val, Again>>)>, Fail> {
-    let mut pair = three_objects(alloc, false)?;
-    Ok(dropped(&pair.stm, &mut pair.one))
+    all_write: bool,
+    steps: [Step; 4],
+) -> Result<(Option<Done>, Tally), Fail> {
+    let mut pair = three_objects(alloc, all_write)?;
+    let done = once(&mut pair.one, &pair.stm, steps, End::Commit);
+    Ok((done, pair.one.tally()))
 }
 
-fn change_one(alloc: Global) -> Result<Option<[Option<Result<Val, Again>>; 3]>, Fail> {
-    let mut pair = three_objects(alloc, false)?;
-    Ok(changed(&pair.stm, &mut pair.one))
+#[test]
+fn one_caller_reads(rt: HostRuntime) -> Result<(), Fail> {
+    let zero = Some(Ok(low(0)));
+    let number = Some(Ok(0));
+    let three = commit_alone(rt.alloc(), false, [Read(0), Read(1), Read(2), Nothing])?;
+    assert!(rt; three == (Some(([zero, zero, zero, None], number)), tally(14, 0, 0)));
+    let one = commit_alone(rt.alloc(), true, [Read(0), Nothing, Nothing, Nothing])?;
+    assert!(rt; one == (Some(([zero, None, None, None], number)), tally(12, 0, 0)));
+    Ok(())
 }
 
-fn read_one(alloc: Global) -> Result<Option<(Answer, Answer, Tally)>, Fail> {
-    let mut pair = three_objects(alloc, true)?;
-    Ok(one_read(&pair.stm, &mut pair.one))
+// Reads an object, sets it and reads it: tells whether it was the first value and is the second one then, and the number is
+// this one.
+fn changes(
+    stm: &Stm<AnyLaw>,
+    one: &mut Caller<AnyLaw>,
+    was: Val,
+    is: Val,
+    end: End,
+    number: Answer,
+) -> bool
+    requires home { one.old.home ≡ stm.now }
+    ensures home { one.new.home ≡ stm.now }
+{
+    let done = once(one, stm, [Read(0), Set(0, is), Read(0), Nothing], end);
+    let was = Some(Ok(was));
+    done == Some(([was, was, Some(Ok(is)), None], number))
+}
+
+// What is set in an attempt that is dropped is not left, and both parts of what is set in one that commits are.
+fn keeps_what_commits(stm: &Stm<AnyLaw>, caller: &mut Caller<AnyLaw>) -> bool
+    requires home { caller.old.home ≡ stm.now }
+{
+    let zero = low(0);
+    let seven = Val { low: 7, high: 8 };
+    let one = Val { low: 1, high: 2 };
+    changes(stm, caller, zero, low(9), End::Drop, None)
+        && changes(stm, caller, zero, seven, End::Commit, Some(Ok(0)))
+        && changes(stm, caller, seven, one, End::Commit, Some(Ok(1)))
+        && changes(stm, caller, one, zero, End::Commit, Some(Ok(2)))
 }
 
 #[test]
 fn one_caller_reads_and_sets(rt: HostRuntime) -> Result<(), Fail> {
-    let alloc = rt.alloc();
-    let zero = Some(Ok(0));
-    let seven = Some(Ok(Val { low: 7, high: 8 }));
-    assert!(rt; read_three(alloc)? == Some(([zero, zero, zero], zero, tally(14, 0, 0))));
-    assert!(rt; drop_one(alloc)? == Some((Some(Ok(9)), zero, zero, seven)));
-    let was = [low(0), Val { low: 1, high: 2 }, Val { low: 3, high: 4 }];
-    assert!(rt; change_one(alloc)? == Some(was.map(|value| Some(Ok(value)))));
-    assert!(rt; read_one(alloc)? == Some((zero, zero, tally(12, 0, 0))));
+    let mut pair = three_objects(rt.alloc(), false)?;
+    assert!(rt; keeps_what_commits(&pair.stm, &mut pair.one));
     Ok(())
 }

@@ -1,97 +1,42 @@
 // Reads that are no longer current, under Polite.
 ghost use Rattle.std.specs.Prelude.{◌≡◌, IfOk, IfSome};
 
-use crate::attempts::{low, open, read, set};
-use crate::calls::{Answer, Pair, begin, commit, drop_early, release, shape, two_callers};
+use crate::attempts::{End, Step, low, make_step};
+use crate::calls::{
+    Answer, Crossed, Done, Found, Met, Pair, begin, commit, cross, meet, once, release, shape,
+    two_callers,
+};
+use Step::{Nothing, Open, Read, Set};
 use dstm_core::Manager;
 use dstm_engine::{Caller, Stm};
-use dstm_model::AnyLaw;
+use dstm_model::{AnyLaw, Val};
 use dstm_order::Again;
 use std::alloc::Global;
 use std::test::Fail;
 
-// Each of two callers reads what the other one opens for writing, and commits.
-fn crossed(
-    stm: &Stm<AnyLaw>,
-    one: &mut Caller<AnyLaw>,
-    two: &mut Caller<AnyLaw>,
-) -> Option<[Answer; 6]>
-    requires homes { (one.old.home ≡ stm.now) × (two.old.home ≡ stm.now) }
-    requires objects { stm.now.terms.shape.objects ≡ 2 }
-    ensures home { IfSome result (λ _. two.new.home ≡ stm.now) }
-{
-    let mut a = begin(one, stm)?;
-    let mut b = begin(two, stm)?;
-    let reads = (read(&mut a, 0), read(&mut b, 1));
-    let opens = (open(&mut a, 1), open(&mut b, 0));
-    if !a.is_live() || !b.is_live() {
-        return None;
-    }
-    let commits = (commit(a), commit(b));
-    Some([reads.0, reads.1, opens.0, opens.1, commits.0, commits.1])
-}
-
-// The second of them alone.
-fn alone(stm: &Stm<AnyLaw>, two: &mut Caller<AnyLaw>) -> Option<[Answer; 3]>
-    requires home { two.old.home ≡ stm.now }
-    requires objects { stm.now.terms.shape.objects ≡ 2 }
-{
-    let mut b = begin(two, stm)?;
-    let first = read(&mut b, 1);
-    let second = open(&mut b, 0);
-    if !b.is_live() {
-        return None;
-    }
-    Some([first, second, commit(b)])
-}
-
-// What a caller has read another one sets before the first opens its next object. Then the first tries again.
-fn overtaken(
-    stm: &Stm<AnyLaw>,
-    one: &mut Caller<AnyLaw>,
-    two: &mut Caller<AnyLaw>,
-) -> Option<[Answer; 4]>
-    requires homes { (one.old.home ≡ stm.now) × (two.old.home ≡ stm.now) }
-    requires objects { stm.now.terms.shape.objects ≡ 2 }
-{
-    let mut a = begin(one, stm)?;
-    let first = read(&mut a, 0);
-    let mut b = begin(two, stm)?;
-    let _old = set(&mut b, 0, low(7));
-    if !b.is_live() {
-        return None;
-    }
-    let number = commit(b);
-    let second = read(&mut a, 1);
-    drop_early(a);
-    let mut a = begin(one, stm)?;
-    let again = read(&mut a, 0);
-    Some([first, number, second, again])
-}
-
-// The same, but the read was let go.
+// What a caller has read another one sets before the first commits, but the read was let go.
 fn released(
     stm: &Stm<AnyLaw>,
     one: &mut Caller<AnyLaw>,
     two: &mut Caller<AnyLaw>,
-) -> Option<[Answer; 3]>
+) -> Option<(Found, bool, Option<Done>, Answer)>
     requires homes { (one.old.home ≡ stm.now) × (two.old.home ≡ stm.now) }
     requires objects { stm.now.terms.shape.objects ≡ 2 }
 {
     let mut a = begin(one, stm)?;
-    let first = read(&mut a, 0);
-    let _read = release(&mut a, 0);
-    let mut b = begin(two, stm)?;
-    let _old = set(&mut b, 0, low(7));
-    if !b.is_live() {
-        return None;
-    }
-    let number = commit(b);
+    let first = make_step(&mut a, 2, Read(0));
+    let is_released = release(&mut a, 0);
+    let other = once(two, stm, SET_SEVEN, End::Commit);
     if !a.is_live() {
         return None;
     }
-    Some([first, number, commit(a)])
+    Some((first, is_released, other, commit(a)))
 }
+
+// The first object is set to 7.
+const SET_SEVEN: [Step; 4] = [Set(0, Val { low: 7, high: 0 }), Nothing, Nothing, Nothing];
+
+const READ_FIRST: [Step; 4] = [Read(0), Nothing, Nothing, Nothing];
 
 // A table of two objects.
 fn two_objects(alloc: Global) -> Result<Pair, Fail>
@@ -102,34 +47,72 @@ fn two_objects(alloc: Global) -> Result<Pair, Fail>
     two_callers(alloc, shape(2, Manager::Polite, false))
 }
 
-fn cross(alloc: Global) -> Result<([Answer; 6], Option<[Answer; 3]>), Fail> {
-    let mut pair = two_objects(alloc)?;
-    match crossed(&pair.stm, &mut pair.one, &mut pair.two) {
-        Some(answers) => Ok((answers, alone(&pair.stm, &mut pair.two))),
-        None => Err(Fail::new("over")),
-    }
+// Each of two callers reads what the other one opens for writing, and commits. Then the second of them alone does.
+fn cross_and_again(
+    stm: &Stm<AnyLaw>,
+    one: &mut Caller<AnyLaw>,
+    two: &mut Caller<AnyLaw>,
+) -> Option<(Crossed, Option<Done>)>
+    requires homes { (one.old.home ≡ stm.now) × (two.old.home ≡ stm.now) }
+{
+    let met = cross(stm, one, two, [Read(0), Read(1), Open(1), Open(0)])?;
+    let alone = once(two, stm, [Read(1), Open(0), Nothing, Nothing], End::Commit);
+    Some((met, alone))
 }
 
-fn overtake(alloc: Global) -> Result<Option<[Answer; 4]>, Fail> {
-    let mut pair = two_objects(alloc)?;
-    Ok(overtaken(&pair.stm, &mut pair.one, &mut pair.two))
+#[test]
+fn of_a_crossed_pair_the_second_is_stale(rt: HostRuntime) -> Result<(), Fail> {
+    let mut pair = two_objects(rt.alloc())?;
+    let met = cross_and_again(&pair.stm, &mut pair.one, &mut pair.two);
+    let zero = Some(Ok(low(0)));
+    let commits = [Some(Ok(0)), Some(Err(Again::Stale(1)))];
+    let alone = Some(([zero, zero, None, None], Some(Ok(2))));
+    assert!(rt; met == Some((([zero, zero, zero, zero], commits), alone)));
+    Ok(())
 }
 
-fn let_go(alloc: Global) -> Result<Option<[Answer; 3]>, Fail> {
-    let mut pair = two_objects(alloc)?;
-    Ok(released(&pair.stm, &mut pair.one, &mut pair.two))
+// What a caller has read another one sets before the first opens its next object. Then the first tries again.
+fn overtake(
+    stm: &Stm<AnyLaw>,
+    one: &mut Caller<AnyLaw>,
+    two: &mut Caller<AnyLaw>,
+) -> Option<(Met, Option<Done>)>
+    requires homes { (one.old.home ≡ stm.now) × (two.old.home ≡ stm.now) }
+{
+    let behind = [Read(1), Nothing, Nothing, Nothing];
+    let met = meet(
+        stm,
+        one,
+        two,
+        READ_FIRST,
+        SET_SEVEN,
+        End::Commit,
+        behind,
+        End::Drop,
+    )?;
+    let again = once(one, stm, READ_FIRST, End::Drop);
+    Some((met, again))
 }
 
 #[test]
 fn a_read_that_was_overtaken_is_stale(rt: HostRuntime) -> Result<(), Fail> {
-    let alloc = rt.alloc();
-    let stale_one = Some(Err(Again::Stale(1)));
-    let stale_zero = Some(Err(Again::Stale(0)));
-    let zero = Some(Ok(0));
-    let (answers, again) = cross(alloc)?;
-    assert!(rt; answers == [zero, zero, zero, zero, zero, stale_one]);
-    assert!(rt; again == Some([zero, zero, Some(Ok(2))]));
-    assert!(rt; overtake(alloc)? == Some([zero, zero, stale_zero, Some(Ok(7))]));
-    assert!(rt; let_go(alloc)? == Some([zero, zero, Some(Ok(1))]));
+    let mut pair = two_objects(rt.alloc())?;
+    let met = overtake(&pair.stm, &mut pair.one, &mut pair.two);
+    let zero = Some(Ok(low(0)));
+    let other = Some(([zero, None, None, None], Some(Ok(0))));
+    let stale = [Some(Err(Again::Stale(0))), None, None, None];
+    let again = Some(([Some(Ok(low(7))), None, None, None], None));
+    let first = ([zero, None, None, None], other, (stale, None));
+    assert!(rt; met == Some((first, again)));
+    Ok(())
+}
+
+#[test]
+fn a_read_that_was_let_go_is_not_stale(rt: HostRuntime) -> Result<(), Fail> {
+    let mut pair = two_objects(rt.alloc())?;
+    let met = released(&pair.stm, &mut pair.one, &mut pair.two);
+    let zero = Some(Ok(low(0)));
+    let other = Some(([zero, None, None, None], Some(Ok(0))));
+    assert!(rt; met == Some((zero, true, other, Some(Ok(1)))));
     Ok(())
 }

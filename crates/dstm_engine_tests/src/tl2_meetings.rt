@@ -2,9 +2,11 @@
 ghost use Rattle.std.specs.Prelude.{◌≡◌, ◌+◌, ◌<◌, ◌≤◌, length, IfOk, IfSome, IsTrue, true};
 ghost use Rattle.dstm_tl2_steps.specs.Reads.{AtRest};
 ghost use Rattle.dstm_tl2_engine.specs.Callers.{is_live, state};
+ghost use Rattle.dstm_tl2_engine.specs.Transactions.{HasLocked};
 ghost use Rattle.dstm_engine_tests.specs.Attempts.{IsSound};
 
-use crate::attempts::{Attempt, low, open, read, set};
+use crate::attempts::{Attempt, End, Step, alternate, low, play};
+use Step::{Nothing, Open, Read, Set};
 use dstm_mem::Mem;
 use dstm_model::{AnyLaw, Val};
 use dstm_tl2_engine::{TlAgain, TlCaller, TlEnrol, TlFounder, TlLocked, TlSpent, TlStm, TlTx};
@@ -12,6 +14,10 @@ use std::alloc::Global;
 use std::test::Fail;
 
 type Answer = crate::attempts::Answer<TlAgain>;
+
+type Found = crate::attempts::Found<TlAgain>;
+
+type Done = crate::attempts::Done<TlAgain>;
 
 // A table of zeros with two callers.
 #[derive(Drop)]
@@ -94,140 +100,154 @@ fn commit(tx: TlTx<'_, AnyLaw>) -> Answer
     Some(tx.commit())
 }
 
-// The caller has no attempt left.
-fn is_spent(caller: &mut TlCaller<AnyLaw>, stm: &TlStm<AnyLaw>) -> bool
+// Quits an attempt.
+fn abandon(tx: TlTx<'_, AnyLaw>)
+    ensures home { tx.exit.0.now.home ≡ tx.entry.caller.now.home }
+{
+    tx.abandon();
+}
+
+// Makes an attempt of these steps. None where the caller has none left.
+fn once(
+    caller: &mut TlCaller<AnyLaw>,
+    stm: &TlStm<AnyLaw>,
+    steps: [Step; 4],
+    end: End,
+) -> Option<Done>
     requires table { caller.old.home ≡ stm.now }
     ensures home { caller.new.home ≡ stm.now }
 {
-    match caller.begin(stm) {
-        Ok(tx) => {
-            tx.abandon();
-            false
-        }
-        Err(TlSpent) => true,
+    let mut tx = match caller.begin(stm) {
+        Ok(tx) => tx,
+        Err(TlSpent) => return None,
+    };
+    let found = play(&mut tx, stm.objects(), steps);
+    if matches!(end, End::Drop) || !rests(&tx) {
+        return Some((found, None));
     }
+    if matches!(end, End::Abandon) {
+        abandon(tx);
+        return Some((found, None));
+    }
+    Some((found, commit(tx)))
 }
 
-// Each of two callers reads what the other one opens for writing, and commits.
-fn crossed(
+// What two attempts were answered that meet: the first one at its steps before the other one, the other one, and the first
+// one behind it.
+type Met = ([Found; 4], Option<Done>, Done);
+
+// Makes an attempt of another caller between the steps of one.
+fn meet(
     stm: &TlStm<AnyLaw>,
     one: &mut TlCaller<AnyLaw>,
     two: &mut TlCaller<AnyLaw>,
-) -> Option<[Answer; 6]>
+    before: [Step; 4],
+    between: [Step; 4],
+    ends: End,
+    behind: [Step; 4],
+    end: End,
+) -> Option<Met>
     requires homes { (one.old.home ≡ stm.now) × (two.old.home ≡ stm.now) }
-    requires objects { length stm.now.terms.start.value.items ≡ 2 }
-    ensures home { IfSome result (λ _. two.new.home ≡ stm.now) }
+    ensures homes { IfSome result (λ _. (one.new.home ≡ stm.now) × (two.new.home ≡ stm.now)) }
+{
+    let mut a = begin(one, stm)?;
+    let objects = stm.objects();
+    let first = play(&mut a, objects, before);
+    let other = once(two, stm, between, ends);
+    let last = play(&mut a, objects, behind);
+    if matches!(end, End::Drop) || !rests(&a) {
+        return Some((first, other, (last, None)));
+    }
+    if matches!(end, End::Abandon) {
+        abandon(a);
+        return Some((first, other, (last, None)));
+    }
+    Some((first, other, (last, commit(a))))
+}
+
+// One step of an attempt.
+fn only(step: Step) -> [Step; 4] {
+    [step, Nothing, Nothing, Nothing]
+}
+
+// Two callers begin, one after the other, make steps in turn and commit.
+fn cross(
+    stm: &TlStm<AnyLaw>,
+    one: &mut TlCaller<AnyLaw>,
+    two: &mut TlCaller<AnyLaw>,
+    steps: [Step; 4],
+) -> Option<([Found; 4], [Answer; 2])>
+    requires homes { (one.old.home ≡ stm.now) × (two.old.home ≡ stm.now) }
+    ensures homes { IfSome result (λ _. (one.new.home ≡ stm.now) × (two.new.home ≡ stm.now)) }
 {
     let mut a = begin(one, stm)?;
     let mut b = begin(two, stm)?;
-    let reads = (read(&mut a, 0), read(&mut b, 1));
-    let opens = (open(&mut a, 1), open(&mut b, 0));
+    let found = alternate(&mut a, &mut b, stm.objects(), steps);
     if !rests(&a) || !rests(&b) {
         return None;
     }
-    let commits = (commit(a), commit(b));
-    Some([reads.0, reads.1, opens.0, opens.1, commits.0, commits.1])
+    let commits = [commit(a), commit(b)];
+    Some((found, commits))
 }
 
-// The second of them alone.
-fn alone(stm: &TlStm<AnyLaw>, two: &mut TlCaller<AnyLaw>) -> Option<[Answer; 3]>
-    requires home { two.old.home ≡ stm.now }
-    requires objects { length stm.now.terms.start.value.items ≡ 2 }
-{
-    let mut b = begin(two, stm)?;
-    let first = read(&mut b, 1);
-    let second = open(&mut b, 0);
-    if !rests(&b) {
-        return None;
-    }
-    Some([first, second, commit(b)])
-}
-
-#[test]
-fn of_a_crossed_pair_the_first_commits(rt: HostRuntime) -> Result<(), Fail> {
-    let mut pair = two_callers(rt.alloc(), 2)?;
-    let met = crossed(&pair.stm, &mut pair.one, &mut pair.two);
-    let zero = Some(Ok(0));
-    let changed = Some(Err(TlAgain::Changed(1)));
-    assert!(rt; met == Some([zero, zero, zero, zero, zero, changed]));
-    // The second one had drawn 1.
-    assert!(rt; alone(&pair.stm, &mut pair.two) == Some([zero, zero, Some(Ok(2))]));
-    Ok(())
-}
-
-// An object is written after an attempt has begun, and then again while another attempt has it locked.
-fn overtaken(
+// Each of two callers reads what the other one opens for writing, and commits. Then the second of them alone does.
+fn cross_and_again(
     stm: &TlStm<AnyLaw>,
     one: &mut TlCaller<AnyLaw>,
     two: &mut TlCaller<AnyLaw>,
-) -> Option<[Answer; 6]>
+) -> Option<([Found; 4], [Answer; 2], Option<Done>)>
     requires homes { (one.old.home ≡ stm.now) × (two.old.home ≡ stm.now) }
-    requires objects { length stm.now.terms.start.value.items ≡ 1 }
 {
-    let mut a = begin(one, stm)?;
-    let mut b = begin(two, stm)?;
-    let old = set(&mut b, 0, low(7));
-    if !rests(&b) {
-        return None;
-    }
-    let first = commit(b);
-    let newer = read(&mut a, 0);
-    a.abandon();
-    let mut a = begin(one, stm)?;
-    let seven = read(&mut a, 0);
-    let _same = open(&mut a, 0);
-    if !rests(&a) {
-        return None;
-    }
-    let Ok(locked) = a.lock() else {
-        return None;
-    };
-    let mut b = begin(two, stm)?;
-    let found = read(&mut b, 0);
-    Some([old, first, newer, seven, found, Some(locked.finish())])
+    let (found, commits) = cross(stm, one, two, [Read(0), Read(1), Open(1), Open(0)])?;
+    let alone = once(two, stm, [Read(1), Open(0), Nothing, Nothing], End::Commit);
+    Some((found, commits, alone))
+}
+
+// The second of a crossed pair had drawn 1.
+#[test]
+fn of_a_crossed_pair_the_first_commits(rt: HostRuntime) -> Result<(), Fail> {
+    let mut pair = two_callers(rt.alloc(), 2)?;
+    let met = cross_and_again(&pair.stm, &mut pair.one, &mut pair.two);
+    let zero = Some(Ok(low(0)));
+    let commits = [Some(Ok(0)), Some(Err(TlAgain::Changed(1)))];
+    let alone = Some(([zero, zero, None, None], Some(Ok(2))));
+    assert!(rt; met == Some(([zero, zero, zero, zero], commits, alone)));
+    Ok(())
+}
+
+// An object is written after an attempt has begun. Then the first caller tries again.
+fn overtake(
+    stm: &TlStm<AnyLaw>,
+    one: &mut TlCaller<AnyLaw>,
+    two: &mut TlCaller<AnyLaw>,
+) -> Option<(Met, Option<Done>)>
+    requires homes { (one.old.home ≡ stm.now) × (two.old.home ≡ stm.now) }
+{
+    let none = [Nothing; 4];
+    let set = only(Set(0, low(7)));
+    let read = only(Read(0));
+    let met = meet(stm, one, two, none, set, End::Commit, read, End::Abandon)?;
+    let again = once(one, stm, read, End::Drop);
+    Some((met, again))
 }
 
 #[test]
-fn an_attempt_meets_a_newer_version_and_a_lock(rt: HostRuntime) -> Result<(), Fail> {
+fn an_attempt_meets_a_newer_version(rt: HostRuntime) -> Result<(), Fail> {
     let mut pair = two_callers(rt.alloc(), 1)?;
-    let met = overtaken(&pair.stm, &mut pair.one, &mut pair.two);
-    let zero = Some(Ok(0));
-    let newer = Some(Err(TlAgain::Newer(0)));
-    let locked = Some(Err(TlAgain::Locked(0)));
-    assert!(rt; met == Some([zero, zero, newer, Some(Ok(7)), locked, Some(Ok(1))]));
+    let met = overtake(&pair.stm, &mut pair.one, &mut pair.two);
+    let other = Some(([Some(Ok(low(0))), None, None, None], Some(Ok(0))));
+    let newer = [Some(Err(TlAgain::Newer(0))), None, None, None];
+    let again = Some(([Some(Ok(low(7))), None, None, None], None));
+    assert!(rt; met == Some((([None; 4], other, (newer, None)), again)));
     Ok(())
 }
 
-// Reads an object and commits.
-fn read_alone(stm: &TlStm<AnyLaw>, caller: &mut TlCaller<AnyLaw>) -> Option<[Answer; 2]>
-    requires home { caller.old.home ≡ stm.now }
-    requires objects { 0 < length stm.now.terms.start.value.items }
-    ensures home { IfSome result (λ _. caller.new.home ≡ stm.now) }
+// Commits what is locked.
+fn finish(locked: TlLocked<'_, AnyLaw>) -> Answer
+    requires locked { HasLocked locked.caller.now }
+    ensures home { locked.exit.0.now.home ≡ locked.entry.caller.now.home }
 {
-    let mut tx = begin(caller, stm)?;
-    let value = read(&mut tx, 0);
-    if !rests(&tx) {
-        return Some([value, None]);
-    }
-    Some([value, commit(tx)])
-}
-
-#[test]
-fn a_caller_with_one_attempt_is_spent_after_it(rt: HostRuntime) -> Result<(), Fail> {
-    let alloc = rt.alloc();
-    let start = vec![in alloc; Val { low: 5, high: 6 }]?;
-    let (stm, mut founder) = TlStm::make(alloc, start, 1, 1, AnyLaw)?;
-    let mut one = caller(alloc, &stm, &mut founder)?;
-    let other = founder.caller(alloc, &stm);
-    assert!(rt; matches!(other, Err(TlEnrol::Full)));
-    assert!(rt; read_alone(&stm, &mut one) == Some([Some(Ok(5)), Some(Ok(0))]));
-    assert!(rt; is_spent(&mut one, &stm));
-    assert!(rt; founder.out() == 1);
-    founder.retire(&stm, one);
-    assert!(rt; founder.out() == 0);
-    let (values, _record) = stm.close(alloc, founder)?;
-    assert!(rt; values.as_slice() == [Val { low: 5, high: 6 }].as_slice());
-    Ok(())
+    Some(locked.finish())
 }
 
 // Lets what is locked go as it is.
@@ -237,36 +257,81 @@ fn drop_locked(locked: TlLocked<'_, AnyLaw>)
     let _locked = locked;
 }
 
-// Locks an object, having set it, and goes away.
-fn lock_and_drop(stm: &TlStm<AnyLaw>, caller: &mut TlCaller<AnyLaw>) -> Option<Answer>
-    requires home { caller.old.home ≡ stm.now }
-    requires objects { 0 < length stm.now.terms.start.value.items }
-    ensures home { IfSome result (λ _. caller.new.home ≡ stm.now) }
+// What the steps before a lock were answered, another attempt while it was held, and the commit.
+type Held = ([Found; 4], Option<Done>, Answer);
+
+// Makes an attempt of another caller while one has locked what it opened for writing, which commits then or goes away.
+fn lock(
+    stm: &TlStm<AnyLaw>,
+    one: &mut TlCaller<AnyLaw>,
+    two: &mut TlCaller<AnyLaw>,
+    steps: [Step; 4],
+    between: [Step; 4],
+    end: End,
+) -> Option<Held>
+    requires homes { (one.old.home ≡ stm.now) × (two.old.home ≡ stm.now) }
+    ensures homes { IfSome result (λ _. (one.new.home ≡ stm.now) × (two.new.home ≡ stm.now)) }
 {
-    let mut tx = begin(caller, stm)?;
-    let old = set(&mut tx, 0, low(9));
-    if !rests(&tx) {
+    let mut a = begin(one, stm)?;
+    let found = play(&mut a, stm.objects(), steps);
+    if !rests(&a) {
         return None;
     }
-    let Ok(locked) = tx.lock() else {
+    let Ok(locked) = a.lock() else {
         return None;
     };
+    let other = once(two, stm, between, End::Drop);
+    if matches!(end, End::Commit) {
+        return Some((found, other, finish(locked)));
+    }
     drop_locked(locked);
-    Some(old)
+    Some((found, other, None))
 }
 
-// What is locked by an attempt that was dropped stays so until its caller begins again, or is retired.
+// An object is read while another attempt has it locked, which commits then.
 #[test]
-fn a_dropped_attempt_holds_its_locks(rt: HostRuntime) -> Result<(), Fail> {
-    let alloc = rt.alloc();
-    let mut pair = two_callers(alloc, 1)?;
-    let zero = Some(Ok(0));
-    let locked = Some(Err(TlAgain::Locked(0)));
-    assert!(rt; lock_and_drop(&pair.stm, &mut pair.one) == Some(zero));
-    assert!(rt; read_alone(&pair.stm, &mut pair.two) == Some([locked, None]));
-    assert!(rt; !is_spent(&mut pair.one, &pair.stm));
-    assert!(rt; read_alone(&pair.stm, &mut pair.two) == Some([zero, zero]));
-    assert!(rt; lock_and_drop(&pair.stm, &mut pair.one) == Some(zero));
+fn an_attempt_meets_a_lock(rt: HostRuntime) -> Result<(), Fail> {
+    let mut pair = two_callers(rt.alloc(), 1)?;
+    let steps = [Read(0), Open(0), Nothing, Nothing];
+    let met = lock(
+        &pair.stm,
+        &mut pair.one,
+        &mut pair.two,
+        steps,
+        only(Read(0)),
+        End::Commit,
+    );
+    let zero = Some(Ok(low(0)));
+    let other = Some(([Some(Err(TlAgain::Locked(0))), None, None, None], None));
+    assert!(rt; met == Some(([zero, zero, None, None], other, Some(Ok(0)))));
+    Ok(())
+}
+
+// Takes a caller back.
+fn retire(founder: &mut TlFounder<AnyLaw>, stm: &TlStm<AnyLaw>, caller: TlCaller<AnyLaw>)
+    requires table { founder.old.home ≡ stm.now }
+    requires caller { caller.home ≡ stm.now }
+    ensures table { founder.new.home ≡ stm.now }
+{
+    founder.retire(stm, caller);
+}
+
+// Closes a table of which all callers are back: its values.
+fn close(alloc: Global, stm: TlStm<AnyLaw>, founder: TlFounder<AnyLaw>) -> Result<Vec<Val>, Fail>
+    requires table { founder.home ≡ stm }
+{
+    if founder.out() > 0 {
+        return Err(Fail::new("a caller is out"));
+    }
+    let (values, _record) = stm.close(alloc, founder)?;
+    Ok(values)
+}
+
+// Retires both callers and closes their table: its values.
+fn close_both(alloc: Global, pair: Pair) -> Result<Vec<Val>, Fail>
+    requires homes { (pair.one.home ≡ pair.stm) × (pair.two.home ≡ pair.stm) }
+    requires founder { pair.founder.home ≡ pair.stm }
+{
     let Pair {
         stm,
         founder,
@@ -274,85 +339,138 @@ fn a_dropped_attempt_holds_its_locks(rt: HostRuntime) -> Result<(), Fail> {
         two,
     } = pair;
     let mut founder = founder;
-    founder.retire(&stm, one);
+    retire(&mut founder, &stm, one);
+    retire(&mut founder, &stm, two);
+    close(alloc, stm, founder)
+}
+
+// Tells whether an attempt that reads the first object finds this, and commits under this number.
+fn reads(stm: &TlStm<AnyLaw>, caller: &mut TlCaller<AnyLaw>, found: Found, number: Answer) -> bool
+    requires home { caller.old.home ≡ stm.now }
+    ensures home { caller.new.home ≡ stm.now }
+{
+    let done = once(caller, stm, only(Read(0)), End::Commit);
+    done == Some(([found, None, None, None], number))
+}
+
+#[test]
+fn a_caller_with_one_attempt_is_spent_after_it(rt: HostRuntime) -> Result<(), Fail> {
+    let alloc = rt.alloc();
+    let five = Val { low: 5, high: 6 };
+    let start = vec![in alloc; five]?;
+    let (stm, mut founder) = TlStm::make(alloc, start, 1, 1, AnyLaw)?;
+    let mut one = caller(alloc, &stm, &mut founder)?;
+    let other = founder.caller(alloc, &stm);
+    assert!(rt; matches!(other, Err(TlEnrol::Full)));
+    assert!(rt; reads(&stm, &mut one, Some(Ok(five)), Some(Ok(0))));
+    assert!(rt; once(&mut one, &stm, only(Nothing), End::Drop) == None);
+    assert!(rt; founder.out() == 1);
+    retire(&mut founder, &stm, one);
+    assert!(rt; founder.out() == 0);
+    let values = close(alloc, stm, founder)?;
+    assert!(rt; values.as_slice() == [five].as_slice());
+    Ok(())
+}
+
+// The first caller locks the object, having set it, and goes away.
+fn lock_and_drop(
+    stm: &TlStm<AnyLaw>,
+    one: &mut TlCaller<AnyLaw>,
+    two: &mut TlCaller<AnyLaw>,
+) -> Option<Held>
+    requires homes { (one.old.home ≡ stm.now) × (two.old.home ≡ stm.now) }
+    ensures homes { IfSome result (λ _. (one.new.home ≡ stm.now) × (two.new.home ≡ stm.now)) }
+{
+    let sets = only(Set(0, low(9)));
+    lock(stm, one, two, sets, [Nothing; 4], End::Drop)
+}
+
+// What is locked by an attempt that was dropped stays so until its caller begins again. Then it locks and is dropped again.
+fn holds_locks(stm: &TlStm<AnyLaw>, one: &mut TlCaller<AnyLaw>, two: &mut TlCaller<AnyLaw>) -> bool
+    requires homes { (one.old.home ≡ stm.now) × (two.old.home ≡ stm.now) }
+    ensures homes { result ≡ true → (one.new.home ≡ stm.now) × (two.new.home ≡ stm.now) }
+{
+    let zero = Some(Ok(low(0)));
+    let locked = Some(Err(TlAgain::Locked(0)));
+    let held = ([zero, None, None, None], Some(([None; 4], None)), None);
+    let Some(first) = lock_and_drop(stm, one, two) else {
+        return false;
+    };
+    let is_held = reads(stm, two, locked, None);
+    let ended = once(one, stm, [Nothing; 4], End::Abandon);
+    let is_free = reads(stm, two, zero, Some(Ok(0)));
+    let Some(second) = lock_and_drop(stm, one, two) else {
+        return false;
+    };
+    let are_dropped = first == held && second == held;
+    are_dropped && is_held && is_free && ended == Some(([None; 4], None))
+}
+
+// A caller whose attempt was dropped is retired, too, and then its lock is free.
+#[test]
+fn a_dropped_attempt_holds_its_locks(rt: HostRuntime) -> Result<(), Fail> {
+    let mut pair = two_callers(rt.alloc(), 1)?;
+    assert!(rt; holds_locks(&pair.stm, &mut pair.one, &mut pair.two));
+    let Pair {
+        stm,
+        founder,
+        one,
+        two,
+    } = pair;
+    let mut founder = founder;
+    retire(&mut founder, &stm, one);
     let mut two = two;
-    assert!(rt; read_alone(&stm, &mut two) == Some([zero, Some(Ok(1))]));
-    founder.retire(&stm, two);
-    let (values, _record) = stm.close(alloc, founder)?;
+    assert!(rt; reads(&stm, &mut two, Some(Ok(low(0))), Some(Ok(1))));
+    retire(&mut founder, &stm, two);
+    let values = close(rt.alloc(), stm, founder)?;
     assert!(rt; values.as_slice() == [low(0)].as_slice());
     Ok(())
 }
 
 // A second lock fails where another caller has committed since: the first one is given back.
-fn locks_one_of_two(
+fn gives_locks_back(
     stm: &TlStm<AnyLaw>,
     one: &mut TlCaller<AnyLaw>,
     two: &mut TlCaller<AnyLaw>,
-) -> Option<[Answer; 4]>
+    seven: Val,
+) -> bool
     requires homes { (one.old.home ≡ stm.now) × (two.old.home ≡ stm.now) }
-    requires objects { length stm.now.terms.start.value.items ≡ 2 }
-    ensures homes { IfSome result (λ _. (one.new.home ≡ stm.now) × (two.new.home ≡ stm.now)) }
+    ensures homes { result ≡ true → (one.new.home ≡ stm.now) × (two.new.home ≡ stm.now) }
 {
-    let mut a = begin(one, stm)?;
-    let _olds = (set(&mut a, 0, low(3)), set(&mut a, 1, low(4)));
-    let mut b = begin(two, stm)?;
-    let _old = set(&mut b, 1, Val { low: 7, high: 8 });
-    if !rests(&a) || !rests(&b) {
-        return None;
-    }
-    let first = commit(b);
-    let failed = commit(a);
-    let mut b = begin(two, stm)?;
-    let values = (read(&mut b, 0), read(&mut b, 1));
-    Some([first, failed, values.0, values.1])
+    let sets = [Set(0, low(3)), Set(1, low(4)), Nothing, Nothing];
+    let set = only(Set(1, seven));
+    let none = [Nothing; 4];
+    let Some(met) = meet(stm, one, two, sets, set, End::Commit, none, End::Commit) else {
+        return false;
+    };
+    let zero = Some(Ok(low(0)));
+    let other = Some(([zero, None, None, None], Some(Ok(0))));
+    let failed = Some(Err(TlAgain::Changed(1)));
+    let steps = [Read(0), Read(1), Nothing, Nothing];
+    let both = once(two, stm, steps, End::Drop);
+    met == ([zero, zero, None, None], other, ([None; 4], failed))
+        && both == Some(([zero, Some(Ok(seven)), None, None], None))
 }
 
 #[test]
 fn a_commit_that_fails_gives_its_locks_back(rt: HostRuntime) -> Result<(), Fail> {
-    let alloc = rt.alloc();
-    let mut pair = two_callers(alloc, 2)?;
-    let met = locks_one_of_two(&pair.stm, &mut pair.one, &mut pair.two);
-    let zero = Some(Ok(0));
-    let changed = Some(Err(TlAgain::Changed(1)));
-    assert!(rt; met == Some([zero, changed, zero, Some(Ok(7))]));
-    let Pair {
-        stm,
-        founder,
-        one,
-        two,
-    } = pair;
-    let mut founder = founder;
-    founder.retire(&stm, one);
-    founder.retire(&stm, two);
-    let (values, _record) = stm.close(alloc, founder)?;
-    assert!(rt; values.as_slice() == [low(0), Val { low: 7, high: 8 }].as_slice());
+    let mut pair = two_callers(rt.alloc(), 2)?;
+    let seven = Val { low: 7, high: 8 };
+    assert!(rt; gives_locks_back(&pair.stm, &mut pair.one, &mut pair.two, seven));
+    let values = close_both(rt.alloc(), pair)?;
+    assert!(rt; values.as_slice() == [low(0), seven].as_slice());
     Ok(())
 }
 
 // An object is set twice and read in between, and then read in the next attempt.
-fn own_writes(stm: &TlStm<AnyLaw>, one: &mut TlCaller<AnyLaw>) -> Option<[Answer; 6]>
-    requires home { one.old.home ≡ stm.now }
-    requires objects { length stm.now.terms.start.value.items ≡ 1 }
-{
-    let mut a = begin(one, stm)?;
-    let before = read(&mut a, 0);
-    let old = set(&mut a, 0, low(3));
-    let own = read(&mut a, 0);
-    let again = set(&mut a, 0, low(4));
-    if !rests(&a) {
-        return None;
-    }
-    let number = commit(a);
-    let mut a = begin(one, stm)?;
-    Some([before, old, own, again, number, read(&mut a, 0)])
-}
-
 #[test]
 fn an_attempt_reads_what_it_has_set(rt: HostRuntime) -> Result<(), Fail> {
     let mut pair = two_callers(rt.alloc(), 1)?;
-    let answers = own_writes(&pair.stm, &mut pair.one);
-    let zero = Some(Ok(0));
-    let three = Some(Ok(3));
-    assert!(rt; answers == Some([zero, zero, three, three, zero, Some(Ok(4))]));
+    let sets = [Read(0), Set(0, low(3)), Read(0), Set(0, low(4))];
+    let done = once(&mut pair.one, &pair.stm, sets, End::Commit);
+    let zero = Some(Ok(low(0)));
+    let three = Some(Ok(low(3)));
+    assert!(rt; done == Some(([zero, zero, three, three], Some(Ok(0)))));
+    assert!(rt; reads(&pair.stm, &mut pair.one, Some(Ok(low(4))), Some(Ok(1))));
     Ok(())
 }
