@@ -1,8 +1,10 @@
 // Callers that meet, under Karma and Greedy.
-ghost use Rattle.std.specs.Prelude.{◌≡◌};
+ghost use Rattle.std.specs.Prelude.{◌≡◌, IfSome};
 
-use crate::attempts::{End, Step, low};
-use crate::calls::{Answer, Crossed, Found, cross, meet, once, shape, tally, two_callers};
+use crate::attempts::{End, Step, low, make_step, play};
+use crate::calls::{
+    Answer, Crossed, Found, abandon, begin, cross, meet, once, shape, tally, two_callers,
+};
 use Step::{Nothing, Open, Read};
 use dstm_core::Manager;
 use dstm_engine::{Caller, Stm, Tally};
@@ -19,17 +21,41 @@ const OPEN_FIRST: [Step; 4] = [Open(0), Nothing, Nothing, Nothing];
 // answered as it committed.
 type Meeting = (Answer, Tally, Answer);
 
-// Under Karma, A has read these in an attempt that it has abandoned. B reads two objects and opens a third one. A opens that
-// one too and commits.
+// A caller reads so many objects in an attempt that it abandons.
+fn earn(caller: &mut Caller<AnyLaw>, stm: &Stm<AnyLaw>, reads: u32) -> Option<()>
+    requires table { caller.old.home ≡ stm.now }
+    ensures home { IfSome result (λ _. caller.new.home ≡ stm.now) }
+{
+    let mut tx = begin(caller, stm)?;
+    let objects = stm.shape().objects;
+    let first = [
+        read_if(reads > 0, 3),
+        read_if(reads > 1, 4),
+        read_if(reads > 2, 5),
+        read_if(reads > 3, 6),
+    ];
+    let _found = play(&mut tx, objects, first);
+    let _last = make_step(&mut tx, objects, read_if(reads > 4, 7));
+    abandon(tx);
+    Some(())
+}
+
+// An object is read, or nothing is done.
+fn read_if(is_so: bool, object: u32) -> Step {
+    if is_so { Read(object) } else { Nothing }
+}
+
+// Under Karma, A has read so many objects in an attempt that it has abandoned. B reads two and opens a third one. A opens
+// that one too and commits.
 fn karma(
     stm: &Stm<AnyLaw>,
     one: &mut Caller<AnyLaw>,
     two: &mut Caller<AnyLaw>,
-    earned: [Step; 4],
+    reads: u32,
 ) -> Option<Meeting>
     requires homes { (one.old.home ≡ stm.now) × (two.old.home ≡ stm.now) }
 {
-    let _found = once(one, stm, earned, End::Abandon)?;
+    earn(one, stm, reads)?;
     let opens = [Read(1), Read(2), Open(0), Nothing];
     let (_found, came, other) = meet(
         stm,
@@ -46,25 +72,24 @@ fn karma(
     Some((number, one.tally(), killed))
 }
 
-fn meet_karma(alloc: Global, earned: [Step; 4]) -> Result<Option<Meeting>, Fail> {
+fn meet_karma(alloc: Global, reads: u32) -> Result<Option<Meeting>, Fail> {
     let mut pair = two_callers(alloc, shape(8, Manager::Karma, false))?;
-    Ok(karma(&pair.stm, &mut pair.one, &mut pair.two, earned))
+    Ok(karma(&pair.stm, &mut pair.one, &mut pair.two, reads))
 }
 
 #[test]
 fn under_karma_a_higher_rank_waits_less(rt: HostRuntime) -> Result<(), Fail> {
     let alloc = rt.alloc();
-    let three = [Read(3), Read(4), Read(5), Nothing];
-    let four = [Read(3), Read(4), Read(5), Read(6)];
     let number = Some(Ok(0));
     let killed = Some(Err(Again::Killed));
-    assert!(rt; meet_karma(alloc, NONE)? == Some((number, tally(34, 16, 1), killed)));
-    assert!(rt; meet_karma(alloc, four)? == Some((number, tally(18, 0, 1), killed)));
-    assert!(rt; meet_karma(alloc, three)? == Some((number, tally(22, 4, 1), killed)));
+    assert!(rt; meet_karma(alloc, 0)? == Some((number, tally(34, 16, 1), killed)));
+    assert!(rt; meet_karma(alloc, 5)? == Some((number, tally(18, 0, 1), killed)));
+    assert!(rt; meet_karma(alloc, 3)? == Some((number, tally(22, 4, 1), killed)));
     Ok(())
 }
 
-// Under Greedy, B opens an object and A comes to it. A draws its stamp after B: since it begins later, or since it begins a new transaction.
+// Under Greedy, B opens an object and A comes to it. A draws its stamp after B: since it begins later, or since it begins a new
+// transaction.
 fn greedy_younger(
     stm: &Stm<AnyLaw>,
     one: &mut Caller<AnyLaw>,
