@@ -1,5 +1,5 @@
-// What the tests of DSTM's engine share: tables of zeros with two callers, and calls on an attempt whose contracts say no more
-// than the tests need.
+// What the tests of DSTM's engine share: tables of zeros with two callers, and calls on an attempt whose contracts
+// say no more than the tests need.
 ghost use Rattle.std.specs.Prelude.{◌≡◌, ◌<◌, ◌≤◌, IfOk, IfSome, IsTrue};
 ghost use Rattle.dstm_core.specs.Words.{IsValid};
 ghost use Rattle.dstm_engine.specs.Callers.{is_live, shape_of};
@@ -166,8 +166,8 @@ pub fn once(
     Some((found, commit(tx)))
 }
 
-// What two attempts were answered that meet: the first one at its steps before the other one, the other one, and the first
-// one behind it.
+// What two attempts were answered that meet: the first one at its steps before the other one, the other one, and the
+// first one behind it.
 pub type Met = ([Found; 4], Option<Done>, Done);
 
 // Makes an attempt of another caller between the steps of one.

@@ -186,8 +186,8 @@ fn stopped(
     }
 }
 
-// What a caller gets that opens the guest's object and commits, its counts, and the values that are left. None where there is a
-// second guest.
+// What a caller gets that opens the guest's object and commits, its counts, and the values that are left. None where
+// there is a second guest.
 type Left = (Option<Done>, Tally, Vec<Val>);
 
 // What a caller gets that comes after this event of the guest.

@@ -39,8 +39,8 @@ fn one_caller_reads(rt: HostRuntime) -> Result<(), Fail> {
     Ok(())
 }
 
-// Reads an object, sets it and reads it: tells whether it was the first value and is the second one then, and the number is
-// this one.
+// Reads an object, sets it and reads it: tells whether it was the first value and is the second one then, and the
+// number is this one.
 fn changes(
     stm: &Stm<AnyLaw>,
     one: &mut Caller<AnyLaw>,

@@ -132,8 +132,8 @@ fn once(
     Some((found, commit(tx)))
 }
 
-// What two attempts were answered that meet: the first one at its steps before the other one, the other one, and the first
-// one behind it.
+// What two attempts were answered that meet: the first one at its steps before the other one, the other one, and the
+// first one behind it.
 type Met = ([Found; 4], Option<Done>, Done);
 
 // Makes an attempt of another caller between the steps of one.
@@ -385,7 +385,8 @@ fn lock_and_drop(
     lock(stm, one, two, sets, [Nothing; 4], End::Drop)
 }
 
-// What is locked by an attempt that was dropped stays so until its caller begins again. Then it locks and is dropped again.
+// What is locked by an attempt that was dropped stays so until its caller begins again. Then it locks and is dropped
+// again.
 fn holds_locks(stm: &TlStm<AnyLaw>, one: &mut TlCaller<AnyLaw>, two: &mut TlCaller<AnyLaw>) -> bool
     requires homes { (one.old.home ≡ stm.now) × (two.old.home ≡ stm.now) }
     ensures homes { result ≡ true → (one.new.home ≡ stm.now) × (two.new.home ≡ stm.now) }
