@@ -569,7 +569,7 @@ class Room:
         """Gives what became of bodies that stand in the place of the right ones: one a check of each function."""
         rounds = []
         for it in bodies:
-            if it.only and len(it.only) == 1 and (name := self.name_of(it.only[0])):
+            if it.edit[4] and len(it.only) == 1 and (name := self.name_of(it.only[0])):
                 at = next((at for at, round in enumerate(rounds) if name not in round), len(rounds))
                 rounds += [{}] * (at == len(rounds))
                 rounds[at] = rounds[at] | {name: it}
