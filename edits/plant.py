@@ -91,8 +91,8 @@ def masked(text):
     return text
 
 
-def read_types(folder):
-    said = "\n".join(masked(it.read_text(encoding="utf-8")) for it in sorted(folder.glob("**/src/**/*.rt")))
+def read_types(files):
+    said = "\n".join(masked(it.read_text(encoding="utf-8")) for it in sorted(files))
     for name, body in re.findall(r"(?s)\benum (\w+)[^{]*(\{.*?\n\})", said):
         ENUMS[name] = re.findall(r"(?m)^ +([A-Z]\w*),", body)
     BOOLS.update(re.findall(r"\b(\w+): bool,", said))
@@ -371,9 +371,9 @@ def constants(crate, file, text, mask, place):
 
 def bodies_of(crate):
     """Returns the wrong bodies of a crate, each once."""
-    # (where two crates have a type of one name, this crate's own is meant)
-    for folder in (TOP / "crates", crate):
-        read_types(folder)
+    # (where two crates have a type of one name, this crate's own is meant; what was built has sources, too)
+    for files in (TOP.glob("crates/*/src/**/*.rt"), crate.glob("src/**/*.rt")):
+        read_types(files)
     read_functions([TOP / "crates" / it for it in below(crate.name)])
     found, seen = [], set()
     for file in sorted(it for it in (crate / "src").rglob("*.rt") if it.name != "tests.rt"):
@@ -451,15 +451,16 @@ class Room:
         # What a check calls functions by, the number of each copy, which it keeps, so that what was checked of it stays
         # so, and the proof files from which answers were taken away.
         self.names, self.numbers, self.cut, self.homes, functions = [], {}, {}, {}, []
-        for file in sorted(it for it in (self.here / "src").rglob("*.rt") if it.name != "tests.rt"):
-            text = file.read_text(encoding="utf-8")
-            self.homes.update((it, self.module_of(file)) for it in re.findall(r"\b(?:struct|enum) (\w+)", masked(text)))
-            functions += [it._replace(file=file) for it in functions_of(masked(text), text)]
         # Methods of traits, and what may call itself, have proofs of another form.
         own = lambda it: re.compile(rf"(?<![\w.:])(?:self\.|Self::)?{it.name}(?:::<[^()]*>)?\(")
-        calls_itself = lambda it: own(it).search(it.file.read_text(encoding="utf-8"), it.begin, it.end)
         is_plain = lambda it: not re.search(r"\bfor\b|\btrait\b", it.block) and it.name != "main"
-        self.proved = [self.called(it) for it in functions if is_plain(it) and not calls_itself(it)]
+        for file in sorted(it for it in (self.here / "src").rglob("*.rt") if it.name != "tests.rt"):
+            text = file.read_text(encoding="utf-8")
+            mask = masked(text)
+            self.homes.update((it, self.module_of(file)) for it in re.findall(r"\b(?:struct|enum) (\w+)", mask))
+            plain = (it for it in functions_of(mask, text) if is_plain(it) and not own(it).search(text, it.begin, it.end))
+            functions += [it._replace(file=file) for it in plain]
+        self.proved = [self.called(it) for it in functions]
 
     def check(self, *words, folder=None):
         how = {"cwd": folder or self.crate, "stdout": subprocess.PIPE, "stderr": subprocess.STDOUT, "encoding": "utf-8"}
