@@ -31,7 +31,8 @@ pub fn writers_in_draw_order<L: Law>()
 {}
 
 /// What a sight covers are the values of the state after the prefix of the history at its place,
-/// which is lawful and has the effect of each transaction that committed before the attempt began.
+/// which is lawful, where the first values are, and has the effect of each transaction that committed before the
+/// attempt began.
 pub fn pass_agrees<L: Law>()
     ensures { PassAgrees L.holds }
 {}
@@ -76,7 +77,7 @@ pub fn put_stays()
     ensures { PutStays }
 {}
 
-/// The values that an attempt has seen stay the same.
+/// The values that an attempt under way has seen stay the same.
 pub fn seen_stays()
     ensures { SeenStays }
 {}

@@ -35,7 +35,7 @@ pub fn commits_are_validated()
 {}
 
 /// An open that has not left its attempt ends with a complete pass, and where ranks rise with a Rank after it, which
-/// raises the rank by one.
+/// raises the rank by one, to 1,023 at most.
 pub fn opens_end_in_a_pass()
     ensures { EveryOpenEndsInPass }
 {}
