@@ -85,7 +85,8 @@ impl<L: Law + Copy> Memory<L> {
         ensures engine { self.new.engine ≡ self.old.engine }
         ensures law { self.new.law ≡ self.old.law }
         ensures full { result ≡ Err failed.Full ↔ length self.old.values.items ≡ 524288 }
-        ensures fails { IfErr result (λ why. self.new.values.items ≡ self.old.values.items) }
+        ensures fails { IfErr result (λ why. (self.new.values.items ≡ self.old.values.items)
+            × ((why ≡ failed.Full) ⊎ (why ≡ failed.Memory))) }
         ensures made { IfOk result (λ cell. Adds T.found self.old.values.items self.new.values.items cell.object value) }
     {
         if self.values.len() >= MOST_CELLS as usize {
@@ -104,7 +105,8 @@ impl<L: Law + Copy> Memory<L> {
         ensures engine { self.new.engine ≡ self.old.engine }
         ensures law { self.new.law ≡ self.old.law }
         ensures full { result ≡ Err failed.Full ↔ 524288 < length self.old.values.items + count }
-        ensures fails { IfErr result (λ why. self.new.values.items ≡ self.old.values.items) }
+        ensures fails { IfErr result (λ why. (self.new.values.items ≡ self.old.values.items)
+            × ((why ≡ failed.Full) ⊎ (why ≡ failed.Memory))) }
         ensures count { IfOk result (λ cells. length cells.items ≡ count) }
         ensures made { IfOk result (λ cells. AddsAll T.found self.old.values.items self.new.values.items cells.items value) }
     {
