@@ -1,7 +1,8 @@
 // A hash map in the cells of a memory.
-ghost use Rattle.std.specs.Prelude.{◌≡◌, ◌+◌, ◌*◌, ◌<◌, ◌≤◌, List, false, IfErr, IfOk, IfSome, OnOk};
+ghost use Rattle.std.specs.Prelude.{◌≡◌, ◌⊎◌, ◌↔◌, ◌+◌, ◌*◌, ◌<◌, ◌≤◌, List, false, length, Err, IfErr, IfOk, IfSome, OnOk};
 ghost use Rattle.dstm_cells.specs.Alternatives.{Notes, noting};
 ghost use Rattle.dstm_cells.specs.UnderWay.{Keeps, MayBegin};
+ghost use Rattle.dstm_cells.specs.declared.error.Failed.TheVariants as failed;
 ghost use Rattle.dstm_model.specs.declared.value.Val.{Val};
 ghost use Rattle.dstm_structures.specs.Effects.{Does, StillMay, Stops};
 ghost use Rattle.dstm_structures.specs.Maps.{Adds, ClearsAll, Empties, Frees, Inserts, Puts, Reaches, Removes, Seeks, SetsKey, SetsReach, Stores, Tells, TellsIf, end_of, home_in, outcome};
@@ -35,7 +36,9 @@ impl<V: Word> HashMap<V> {
     pub fn new<L: Law + Copy>(memory: &mut Memory<L>, capacity: u32) -> Result<HashMap<V>, Failed>
         ensures adds { IfOk result (λ map. Adds V.found map memory.old.values.items memory.new.values.items) }
         ensures capacity { IfOk result (λ map. map.cells.capacity ≡ capacity) }
-        ensures fails { IfErr result (λ why. memory.new.values.items ≡ memory.old.values.items) }
+        ensures full { result ≡ Err failed.Full ↔ (capacity ≡ 0) ⊎ (524288 < length memory.old.values.items + 2 * capacity) }
+        ensures fails { IfErr result (λ why. (memory.new.values.items ≡ memory.old.values.items)
+            × ((why ≡ failed.Full) ⊎ (why ≡ failed.Memory))) }
         ensures engine { memory.new.engine ≡ memory.old.engine }
         ensures law { memory.new.law ≡ memory.old.law }
     {

@@ -1,7 +1,8 @@
 // An ordered map in the cells of a memory.
-ghost use Rattle.std.specs.Prelude.{◌≡◌, ◌+◌, ◌*◌, ◌<◌, ◌≤◌, List, false, IfErr, IfOk, IfSome, OnOk};
+ghost use Rattle.std.specs.Prelude.{◌≡◌, ◌⊎◌, ◌↔◌, ◌+◌, ◌*◌, ◌<◌, ◌≤◌, List, false, length, Err, IfErr, IfOk, IfSome, OnOk};
 ghost use Rattle.dstm_cells.specs.Alternatives.{Notes, noting};
 ghost use Rattle.dstm_cells.specs.UnderWay.{Keeps, MayBegin};
+ghost use Rattle.dstm_cells.specs.declared.error.Failed.TheVariants as failed;
 ghost use Rattle.dstm_model.specs.declared.value.Val.{Val};
 ghost use Rattle.dstm_structures.specs.Effects.{Does, StillMay, Stops};
 ghost use Rattle.dstm_structures.specs.Maps.{Tells, TellsIf, end_of};
@@ -31,7 +32,9 @@ impl<V: Word> OrderedMap<V> {
     ) -> Result<OrderedMap<V>, Failed>
         ensures adds { IfOk result (λ map. Adds V.found map memory.old.values.items memory.new.values.items) }
         ensures capacity { IfOk result (λ map. map.map.cells.capacity ≡ capacity) }
-        ensures fails { IfErr result (λ why. memory.new.values.items ≡ memory.old.values.items) }
+        ensures full { result ≡ Err failed.Full ↔ (capacity ≡ 0) ⊎ (524288 < length memory.old.values.items + 3 * capacity + 1) }
+        ensures fails { IfErr result (λ why. (memory.new.values.items ≡ memory.old.values.items)
+            × ((why ≡ failed.Full) ⊎ (why ≡ failed.Memory))) }
         ensures engine { memory.new.engine ≡ memory.old.engine }
         ensures law { memory.new.law ≡ memory.old.law }
     {

@@ -1,7 +1,8 @@
 // A queue in the cells of a memory.
-ghost use Rattle.std.specs.Prelude.{◌≡◌, ◌+◌, ◌<◌, List, false, IfErr, IfOk, OnOk, Err};
+ghost use Rattle.std.specs.Prelude.{◌≡◌, ◌⊎◌, ◌↔◌, ◌+◌, ◌<◌, List, false, length, Err, IfErr, IfOk, OnOk};
 ghost use Rattle.dstm_cells.specs.Alternatives.{Notes, noting};
 ghost use Rattle.dstm_cells.specs.UnderWay.{Keeps, MayBegin, stop_by};
+ghost use Rattle.dstm_cells.specs.declared.error.Failed.TheVariants as failed;
 ghost use Rattle.dstm_cells.specs.declared.error.Why.TheVariants.{Retry};
 ghost use Rattle.dstm_model.specs.declared.value.Val.{Val};
 ghost use Rattle.dstm_structures.specs.Effects.{Does, Stops};
@@ -25,7 +26,9 @@ impl<T: Word> Queue<T> {
     pub fn new<L: Law + Copy>(memory: &mut Memory<L>, capacity: u32) -> Result<Queue<T>, Failed>
         ensures adds { IfOk result (λ queue. Adds T.found queue memory.old.values.items memory.new.values.items) }
         ensures capacity { IfOk result (λ queue. queue.cells.capacity ≡ capacity) }
-        ensures fails { IfErr result (λ why. memory.new.values.items ≡ memory.old.values.items) }
+        ensures full { result ≡ Err failed.Full ↔ 524288 < length memory.old.values.items + capacity + 1 }
+        ensures fails { IfErr result (λ why. (memory.new.values.items ≡ memory.old.values.items)
+            × ((why ≡ failed.Full) ⊎ (why ≡ failed.Memory))) }
         ensures engine { memory.new.engine ≡ memory.old.engine }
         ensures law { memory.new.law ≡ memory.old.law }
     {

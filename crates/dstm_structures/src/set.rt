@@ -1,7 +1,8 @@
 // An ordered set in the cells of a memory.
-ghost use Rattle.std.specs.Prelude.{◌≡◌, List, false, IfErr, IfOk, OnOk};
+ghost use Rattle.std.specs.Prelude.{◌≡◌, ◌⊎◌, ◌↔◌, ◌+◌, ◌*◌, ◌<◌, List, false, length, Err, IfErr, IfOk, OnOk};
 ghost use Rattle.dstm_cells.specs.Alternatives.{Notes, noting};
 ghost use Rattle.dstm_cells.specs.UnderWay.{Keeps, MayBegin};
+ghost use Rattle.dstm_cells.specs.declared.error.Failed.TheVariants as failed;
 ghost use Rattle.dstm_model.specs.declared.value.Val.{Val};
 ghost use Rattle.dstm_structures.specs.Effects.{Does, Stops};
 ghost use Rattle.dstm_structures.specs.Maps.{end_of};
@@ -52,7 +53,9 @@ impl OrderedSet {
     pub fn new<L: Law + Copy>(memory: &mut Memory<L>, capacity: u32) -> Result<OrderedSet, Failed>
         ensures adds { IfOk result (λ set. Adds set memory.old.values.items memory.new.values.items) }
         ensures capacity { IfOk result (λ set. set.map.map.cells.capacity ≡ capacity) }
-        ensures fails { IfErr result (λ why. memory.new.values.items ≡ memory.old.values.items) }
+        ensures full { result ≡ Err failed.Full ↔ (capacity ≡ 0) ⊎ (524288 < length memory.old.values.items + 3 * capacity + 1) }
+        ensures fails { IfErr result (λ why. (memory.new.values.items ≡ memory.old.values.items)
+            × ((why ≡ failed.Full) ⊎ (why ≡ failed.Memory))) }
         ensures engine { memory.new.engine ≡ memory.old.engine }
         ensures law { memory.new.law ≡ memory.old.law }
     {
