@@ -8,7 +8,7 @@ use Rattle.dstm_tables.specs.declared.tables.Caller.{Caller}
 use Rattle.dstm_tables.specs.declared.tables.Caller.TheVariants.{Dstm, Tl2}
 use Rattle.dstm_attempts.specs.Attempts.{Attempt, Keeps, objects_of, written}
 use Rattle.dstm_tables.specs.Tables.{objects_there}
-use Rattle.dstm_cells.specs.UnderWay.{Changes, Gets, MayBegin, StopsChange, StopsLook, seen}
+use Rattle.dstm_cells.specs.UnderWay.{Changes, Gets, MayBegin, StopsLook, seen}
 use Rattle.dstm_cells.specs.declared.error.Why.{Why}
 use Rattle.dstm_cells.specs.declared.error.Why.TheVariants.{Again, Retry, Foreign, Memory}
 use Rattle.dstm_cells.proofs.Found.{found_at, put_at}
@@ -27,44 +27,11 @@ module _ {L : Type 0} where
 
   module _ (holds : L → List Val → Type 0) (size o : ℕ) (notes : Bool) (k m n : Caller L) (keeps : Keeps k m)
       (inside : o < size) where
-    pub stops-look : (why : Why) → StopsLook holds o m n why → Stops size notes k why
-    stops-look Again s = tt
+    pub stops-look : (why : Why) → StopsLook holds o m n why → Stops size notes k n why
+    stops-look Again s = s.why.0
     stops-look Retry s = absurd s
     stops-look Foreign s = omega (arith, s.why, same_objects k m keeps, inside)
     stops-look Memory s = absurd s
-
-    pub stops-change : (before : Bool) → before ≡ notes → (why : Why) → StopsChange holds before o m n why →
-        Stops size notes k why
-    stops-change before same Again s = tt
-    stops-change before same Retry s = absurd s
-    stops-change before same Foreign s = omega (arith, s.why, same_objects k m keeps, inside)
-    stops-change before same Memory s = sym same ∙ s.0
-
-  pub stops-later : (size : ℕ) (before notes : Bool) → before ≡ notes → (k m : Caller L) → Keeps k m → (why : Why) →
-      Stops size before m why → Stops size notes k why
-  stops-later size before notes same k m keeps Again s = tt
-  stops-later size before notes same k m keeps Retry s = absurd s
-  stops-later size before notes same k m keeps Foreign s = omega (arith, s, same_objects k m keeps)
-  stops-later size before notes same k m keeps Memory s = sym same ∙ s
-
-  -- a call within fewer objects
-  pub stops-wider : (less size : ℕ) → less ≤ size → (before notes : Bool) → before ≡ notes → (k m : Caller L) → Keeps k m →
-      (why : Why) → Stops less before m why → Stops size notes k why
-  stops-wider less size most before notes same k m keeps Again s = tt
-  stops-wider less size most before notes same k m keeps Retry s = absurd s
-  stops-wider less size most before notes same k m keeps Foreign s = omega (arith, s, most, same_objects k m keeps)
-  stops-wider less size most before notes same k m keeps Memory s = sym same ∙ s
-
-  -- a call that only looks does not want memory
-  pub stops-unnoted : (size : ℕ) (notes : Bool) (k m : Caller L) → Keeps k m → (why : Why) → Stops size false m why →
-      Stops size notes k why
-  stops-unnoted size notes k m keeps Again s = tt
-  stops-unnoted size notes k m keeps Retry s = absurd s
-  stops-unnoted size notes k m keeps Foreign s = omega (arith, s, same_objects k m keeps)
-  stops-unnoted size notes k m keeps Memory s = absurd (never s)
-    where
-      never : false ≡ true → ⊥
-      never e = cc
 
   -- ---- what it does
 

@@ -2,19 +2,20 @@
 use Rattle.std.specs.Prelude.{◌≡◌, ℕ, ◌<◌, ◌≤◌, Bool, true, List}
 use Rattle.dstm_model.specs.declared.value.Val.{Val}
 use Rattle.dstm_tables.specs.declared.tables.Caller.{Caller}
-use Rattle.dstm_attempts.specs.Attempts.{objects_of}
+use Rattle.dstm_attempts.specs.Attempts.{IsClosed, objects_of}
 use Rattle.dstm_cells.specs.UnderWay.{MayBegin, seen}
 use Rattle.dstm_cells.specs.declared.error.Why.{Why}
 use Rattle.dstm_cells.specs.declared.error.Why.TheVariants.{Again, Retry, Foreign, Memory}
 
 module _ {L : Type 0} where
-  -- why a call on a structure within so many objects stops: it never retries, no object is foreign where the run's memory
-  -- has them, and it wants memory only where it is to note what it sets
-  abbrev pub Stops : (objects : ℕ) (notes : Bool) → Caller L → Why → Type 0
-  Stops objects notes k Again = Unit {0}
-  Stops objects notes k Retry = ⊥
-  Stops objects notes k Foreign = objects_of k < objects
-  Stops objects notes k Memory = notes ≡ true
+  -- why a call on a structure within so many objects stops: it is made again only where no call on the attempt is made any
+  -- more, it never retries, no object is foreign where the run's memory has them, and it wants memory only where it is to note
+  -- what it sets
+  abbrev pub Stops : (objects : ℕ) (notes : Bool) (old new : Caller L) → Why → Type 0
+  Stops objects notes old new Again = IsClosed new
+  Stops objects notes old new Retry = ⊥
+  Stops objects notes old new Foreign = objects_of old < objects
+  Stops objects notes old new Memory = notes ≡ true
 
   module _ (holds : L → List Val → Type 0) where
     -- THIS WAS DONE, whatever values the attempt stands at, where the run's memory has so many objects

@@ -55,19 +55,20 @@ module _ {L : Type 0} (holds : L → List Val → Type 0) where
   pub goes-narrows : (k n : Noting L) (map values : List Val) → GoesOn k n → StandsAt n map values → StandsAt k map values
   goes-narrows k n map values goes at = (goes.unset.narrows map at.0, sym (goes.unset.same map) ∙ at.1)
 
-  pub goes-stops : (lists : Bool) (size : ℕ) (k m : Noting L) (why : Why) → GoesOn k m → Stops size lists m.caller why →
-      Stops size lists k.caller why
-  goes-stops lists size k m Again goes stops = tt
-  goes-stops lists size k m Retry goes stops = stops
-  goes-stops lists size k m Foreign goes stops =
+  pub goes-stops : (lists : Bool) (size : ℕ) (k m n : Noting L) (why : Why) → GoesOn k m →
+      Stops size lists m.caller n.caller why → Stops size lists k.caller n.caller why
+  goes-stops lists size k m n Again goes stops = stops
+  goes-stops lists size k m n Retry goes stops = stops
+  goes-stops lists size k m n Foreign goes stops =
       subst (λ (a : Attempt L). objects_there a.home < size) goes.keeps stops
-  goes-stops lists size k m Memory goes stops = stops
+  goes-stops lists size k m n Memory goes stops = stops
 
-  pub stops-listing : (size : ℕ) (k : Noting L) (why : Why) → Stops size false k.caller why → Stops size true k.caller why
-  stops-listing size k Again stops = tt
-  stops-listing size k Retry stops = stops
-  stops-listing size k Foreign stops = stops
-  stops-listing size k Memory stops = refl
+  pub stops-listing : (size : ℕ) (k n : Noting L) (why : Why) → Stops size false k.caller n.caller why →
+      Stops size true k.caller n.caller why
+  stops-listing size k n Again stops = stops
+  stops-listing size k n Retry stops = stops
+  stops-listing size k n Foreign stops = stops
+  stops-listing size k n Memory stops = refl
 
 -- ---- a memory between runs
 

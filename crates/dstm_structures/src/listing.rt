@@ -21,7 +21,8 @@ impl<V: Word> HashMap<V> {
     pub fn len<L: Law>(self, tx: &mut Tx<'_, L>) -> Result<u32, Stop>
         ensures keeps { Keeps tx.old.attempts.caller tx.new.attempts.caller }
         ensures notes { Notes L.holds (noting tx.old) (noting tx.new) }
-        ensures stops { IfErr result (λ stop. Stops (end_of self) false tx.old.attempts.caller stop.why) }
+        ensures stops { IfErr result (λ stop. Stops (end_of self) false
+            tx.old.attempts.caller tx.new.attempts.caller stop.why) }
         ensures counts { IfOk result (λ count. Does L.holds (end_of self) (Counts V.found self count)
             tx.old.attempts.caller tx.new.attempts.caller) }
         ensures may { OnOk result ((map : List Val) × MayBegin L.holds tx.new.attempts.caller map) }
@@ -38,7 +39,8 @@ impl<V: Word> HashMap<V> {
     pub fn to_vec<L: Law>(self, tx: &mut Tx<'_, L>, alloc: Global) -> Result<Vec<(u64, V)>, Stop>
         ensures keeps { Keeps tx.old.attempts.caller tx.new.attempts.caller }
         ensures notes { Notes L.holds (noting tx.old) (noting tx.new) }
-        ensures stops { IfErr result (λ stop. Stops (end_of self) true tx.old.attempts.caller stop.why) }
+        ensures stops { IfErr result (λ stop. Stops (end_of self) true
+            tx.old.attempts.caller tx.new.attempts.caller stop.why) }
         ensures lists { IfOk result (λ items. Does L.holds (end_of self) (Lists V.found self items.items)
             tx.old.attempts.caller tx.new.attempts.caller) }
         ensures may { OnOk result ((map : List Val) × MayBegin L.holds tx.new.attempts.caller map) }
@@ -52,7 +54,8 @@ impl<V: Word> HashMap<V> {
         requires { at < self.cells.capacity }
         ensures keeps { Keeps tx.old.attempts.caller tx.new.attempts.caller }
         ensures notes { Notes L.holds (noting tx.old) (noting tx.new) }
-        ensures stops { IfErr result (λ stop. Stops (end_of self) false tx.old.attempts.caller stop.why) }
+        ensures stops { IfErr result (λ stop. Stops (end_of self) false
+            tx.old.attempts.caller tx.new.attempts.caller stop.why) }
         ensures stands { IfOk result (λ key. Does L.holds (end_of self) (Stands self at key)
             tx.old.attempts.caller tx.new.attempts.caller) }
         ensures may { OnOk result ((map : List Val) × MayBegin L.holds tx.new.attempts.caller map) }
@@ -67,7 +70,8 @@ impl<V: Word> OrderedMap<V> {
     pub fn len<L: Law>(self, tx: &mut Tx<'_, L>) -> Result<u32, Stop>
         ensures keeps { Keeps tx.old.attempts.caller tx.new.attempts.caller }
         ensures notes { Notes L.holds (noting tx.old) (noting tx.new) }
-        ensures stops { IfErr result (λ stop. Stops (end_of self.map) false tx.old.attempts.caller stop.why) }
+        ensures stops { IfErr result (λ stop. Stops (end_of self.map) false
+            tx.old.attempts.caller tx.new.attempts.caller stop.why) }
         ensures counts { IfOk result (λ count. Does L.holds (end_of self.map) (Counts V.found self.map count)
             tx.old.attempts.caller tx.new.attempts.caller) }
         ensures may { OnOk result ((map : List Val) × MayBegin L.holds tx.new.attempts.caller map) }
@@ -79,7 +83,8 @@ impl<V: Word> OrderedMap<V> {
     pub fn to_vec<L: Law>(self, tx: &mut Tx<'_, L>, alloc: Global) -> Result<Vec<(u64, V)>, Stop>
         ensures keeps { Keeps tx.old.attempts.caller tx.new.attempts.caller }
         ensures notes { Notes L.holds (noting tx.old) (noting tx.new) }
-        ensures stops { IfErr result (λ stop. Stops (order_end self.map.cells) true tx.old.attempts.caller stop.why) }
+        ensures stops { IfErr result (λ stop. Stops (order_end self.map.cells) true
+            tx.old.attempts.caller tx.new.attempts.caller stop.why) }
         ensures lists { IfOk result (λ items. Does L.holds (order_end self.map.cells) (ListsInOrder V.found self items.items)
             tx.old.attempts.caller tx.new.attempts.caller) }
         ensures may { OnOk result ((map : List Val) × MayBegin L.holds tx.new.attempts.caller map) }
@@ -100,7 +105,8 @@ impl OrderedSet {
     pub fn len<L: Law>(self, tx: &mut Tx<'_, L>) -> Result<u32, Stop>
         ensures keeps { Keeps tx.old.attempts.caller tx.new.attempts.caller }
         ensures notes { Notes L.holds (noting tx.old) (noting tx.new) }
-        ensures stops { IfErr result (λ stop. Stops (end_of self.map.map) false tx.old.attempts.caller stop.why) }
+        ensures stops { IfErr result (λ stop. Stops (end_of self.map.map) false
+            tx.old.attempts.caller tx.new.attempts.caller stop.why) }
         ensures counts { IfOk result (λ count. Does L.holds (end_of self.map.map) (sets.Counts self count)
             tx.old.attempts.caller tx.new.attempts.caller) }
         ensures may { OnOk result ((map : List Val) × MayBegin L.holds tx.new.attempts.caller map) }

@@ -21,19 +21,20 @@ pub(crate) trait Looks {
     // It has only looked, and stands where it stood.
     ghost Stays: { Self → Self → Type 0 };
 
-    // Why looks at cells among so many fail; and whether a list is made, for which there may not be enough memory.
-    ghost Fails: { (lists : Bool) → ℕ → Self → Self.Err → Type 0 };
+    // Why looks at cells among so many fail, and what that leaves; and whether a list is made, for which there may not be enough
+    // memory.
+    ghost Fails: { (lists : Bool) → ℕ → (old new : Self) → Self.Err → Type 0 };
 
     // What a cell holds.
     fn look<T: Word>(&mut self, cell: Cell<T>) -> Result<T, Self::Err>
         ensures stays { Stays self.old self.new }
-        ensures fails { IfErr result (λ why. (size : ℕ) → cell.object < size → Fails false size self.old why) }
+        ensures fails { IfErr result (λ why. (size : ℕ) → cell.object < size → Fails false size self.old self.new why) }
         ensures is { IfOk result (λ value. Shows Stands (λ values. value ≡ T.found (value_at values cell.object)) self.new) }
         ensures may { OnOk result (StandsSomewhere Stands self.new) };
 
     // There is not enough memory for a list.
     fn lacks(error: AllocError) -> Self::Err
-        ensures { (size : ℕ) (by : Self) → Fails true size by result };
+        ensures { (size : ℕ) (old new : Self) → Fails true size old new result };
 
     ghost still: { (k : Self) → Stays k k };
 
@@ -41,10 +42,10 @@ pub(crate) trait Looks {
 
     ghost narrows: { (k n : Self) (map values : List Val) → Stays k n → Stands n map values → Stands k map values };
 
-    ghost fails_later: { (lists : Bool) (size : ℕ) (k m : Self) (why : Self.Err) → Stays k m → Fails lists size m why →
-        Fails lists size k why };
+    ghost fails_later: { (lists : Bool) (size : ℕ) (k m n : Self) (why : Self.Err) → Stays k m → Fails lists size m n why →
+        Fails lists size k n why };
 
-    ghost fails_listing: { (size : ℕ) (k : Self) (why : Self.Err) → Fails false size k why → Fails true size k why };
+    ghost fails_listing: { (size : ℕ) (k n : Self) (why : Self.Err) → Fails false size k n why → Fails true size k n why };
 }
 
 impl<L: Law> Looks for Tx<'_, L> {
@@ -56,7 +57,7 @@ impl<L: Law> Looks for Tx<'_, L> {
 
     ghost Stays = { λ old new. GoesOn L.holds (noting old) (noting new) };
 
-    ghost Fails = { λ lists size tx stop. Stops size lists tx.attempts.caller stop.why };
+    ghost Fails = { λ lists size old new stop. Stops size lists old.attempts.caller new.attempts.caller stop.why };
 
     fn look<T: Word>(&mut self, cell: Cell<T>) -> Result<T, Stop> {
         let value = self.get(cell)?;
@@ -73,9 +74,9 @@ impl<L: Law> Looks for Tx<'_, L> {
 
     ghost narrows = { λ k n. goes-narrows L.holds (noting k) (noting n) };
 
-    ghost fails_later = { λ lists size k m stop. goes-stops L.holds lists size (noting k) (noting m) stop.why };
+    ghost fails_later = { λ lists size k m n stop. goes-stops L.holds lists size (noting k) (noting m) (noting n) stop.why };
 
-    ghost fails_listing = { λ size k stop. stops-listing L.holds size (noting k) stop.why };
+    ghost fails_listing = { λ size k n stop. stops-listing L.holds size (noting k) (noting n) stop.why };
 }
 
 // A memory between runs.
@@ -94,7 +95,7 @@ impl<L: Law + Copy> Looks for Between<'_, L> {
 
     ghost Stays = { λ old new. new ≡ old };
 
-    ghost Fails = { λ lists size by why. FailsBetween lists size (length by.memory.now.values.items) why };
+    ghost Fails = { λ lists size old new why. FailsBetween lists size (length old.memory.now.values.items) why };
 
     fn look<T: Word>(&mut self, cell: Cell<T>) -> Result<T, Failed> {
         let value = self.memory.get(cell)?;
@@ -111,8 +112,8 @@ impl<L: Law + Copy> Looks for Between<'_, L> {
 
     ghost narrows = { λ k n map values stays at. ap (λ b. b.memory.now.values.items) (sym stays) ∙ at };
 
-    ghost fails_later = { λ lists size k m why stays. subst
+    ghost fails_later = { λ lists size k m n why stays. subst
         (λ b. FailsBetween lists size (length b.memory.now.values.items) why) stays };
 
-    ghost fails_listing = { λ size k why. between-listing size (length k.memory.now.values.items) why };
+    ghost fails_listing = { λ size k n why. between-listing size (length k.memory.now.values.items) why };
 }

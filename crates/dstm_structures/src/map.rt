@@ -67,7 +67,8 @@ impl<V: Word> HashMap<V> {
     pub fn get<L: Law>(self, tx: &mut Tx<'_, L>, key: u64) -> Result<Option<V>, Stop>
         ensures keeps { Keeps tx.old.attempts.caller tx.new.attempts.caller }
         ensures notes { Notes L.holds (noting tx.old) (noting tx.new) }
-        ensures stops { IfErr result (λ stop. Stops (end_of self) false tx.old.attempts.caller stop.why) }
+        ensures stops { IfErr result (λ stop. Stops (end_of self) false
+            tx.old.attempts.caller tx.new.attempts.caller stop.why) }
         ensures tells { IfOk result (λ answer. Does L.holds (end_of self) (Tells V.found self key answer)
             tx.old.attempts.caller tx.new.attempts.caller) }
         ensures may { OnOk result ((map : List Val) × MayBegin L.holds tx.new.attempts.caller map) }
@@ -80,7 +81,8 @@ impl<V: Word> HashMap<V> {
     pub fn contains<L: Law>(self, tx: &mut Tx<'_, L>, key: u64) -> Result<bool, Stop>
         ensures keeps { Keeps tx.old.attempts.caller tx.new.attempts.caller }
         ensures notes { Notes L.holds (noting tx.old) (noting tx.new) }
-        ensures stops { IfErr result (λ stop. Stops (end_of self) false tx.old.attempts.caller stop.why) }
+        ensures stops { IfErr result (λ stop. Stops (end_of self) false
+            tx.old.attempts.caller tx.new.attempts.caller stop.why) }
         ensures tells { IfOk result (λ answer. Does L.holds (end_of self) (TellsIf V.found self key answer)
             tx.old.attempts.caller tx.new.attempts.caller) }
         ensures may { OnOk result ((map : List Val) × MayBegin L.holds tx.new.attempts.caller map) }
@@ -93,7 +95,8 @@ impl<V: Word> HashMap<V> {
     pub fn put<L: Law>(self, tx: &mut Tx<'_, L>, key: u64, value: V) -> Result<Placed<V>, Stop>
         ensures keeps { Keeps tx.old.attempts.caller tx.new.attempts.caller }
         ensures notes { Notes L.holds (noting tx.old) (noting tx.new) }
-        ensures stops { IfErr result (λ stop. Stops (end_of self) tx.old.notes tx.old.attempts.caller stop.why) }
+        ensures stops { IfErr result (λ stop. Stops (end_of self) tx.old.notes
+            tx.old.attempts.caller tx.new.attempts.caller stop.why) }
         ensures puts { IfOk result (λ placed. Does L.holds (end_of self) (Puts V.found self key value placed)
             tx.old.attempts.caller tx.new.attempts.caller) }
         ensures may { OnOk result ((map : List Val) × MayBegin L.holds tx.new.attempts.caller map) }
@@ -111,7 +114,8 @@ impl<V: Word> HashMap<V> {
     pub fn remove<L: Law>(self, tx: &mut Tx<'_, L>, key: u64) -> Result<Option<V>, Stop>
         ensures keeps { Keeps tx.old.attempts.caller tx.new.attempts.caller }
         ensures notes { Notes L.holds (noting tx.old) (noting tx.new) }
-        ensures stops { IfErr result (λ stop. Stops (end_of self) tx.old.notes tx.old.attempts.caller stop.why) }
+        ensures stops { IfErr result (λ stop. Stops (end_of self) tx.old.notes
+            tx.old.attempts.caller tx.new.attempts.caller stop.why) }
         ensures removes { IfOk result (λ removed. Does L.holds (end_of self) (Removes V.found self key removed)
             tx.old.attempts.caller tx.new.attempts.caller) }
         ensures may { OnOk result ((map : List Val) × MayBegin L.holds tx.new.attempts.caller map) }
@@ -138,7 +142,8 @@ impl<V: Word> HashMap<V> {
     pub(crate) fn find<L: Law>(self, tx: &mut Tx<'_, L>, key: u64) -> Result<Option<u32>, Stop>
         ensures keeps { Keeps tx.old.attempts.caller tx.new.attempts.caller }
         ensures notes { Notes L.holds (noting tx.old) (noting tx.new) }
-        ensures stops { IfErr result (λ stop. Stops (end_of self) false tx.old.attempts.caller stop.why) }
+        ensures stops { IfErr result (λ stop. Stops (end_of self) false
+            tx.old.attempts.caller tx.new.attempts.caller stop.why) }
         ensures within { IfOk result (λ place. IfSome place (λ at. at < self.cells.capacity)) }
         ensures seeks { IfOk result (λ place. Does L.holds (end_of self) (Seeks self key place)
             tx.old.attempts.caller tx.new.attempts.caller) }
@@ -157,7 +162,8 @@ impl<V: Word> HashMap<V> {
     ) -> Result<Option<u32>, Stop>
         ensures keeps { Keeps tx.old.attempts.caller tx.new.attempts.caller }
         ensures notes { Notes L.holds (noting tx.old) (noting tx.new) }
-        ensures stops { IfErr result (λ stop. Stops (end_of self) tx.old.notes tx.old.attempts.caller stop.why) }
+        ensures stops { IfErr result (λ stop. Stops (end_of self) tx.old.notes
+            tx.old.attempts.caller tx.new.attempts.caller stop.why) }
         ensures within { IfOk result (λ place. IfSome place (λ at. at < self.cells.capacity)) }
         ensures inserts { IfOk result (λ place. Does L.holds (end_of self) (Inserts V.found self key value place)
             tx.old.attempts.caller tx.new.attempts.caller) }
@@ -183,7 +189,8 @@ impl<V: Word> HashMap<V> {
         requires { home < self.cells.capacity }
         ensures keeps { Keeps tx.old.attempts.caller tx.new.attempts.caller }
         ensures notes { Notes L.holds (noting tx.old) (noting tx.new) }
-        ensures stops { IfErr result (λ stop. Stops (end_of self) false tx.old.attempts.caller stop.why) }
+        ensures stops { IfErr result (λ stop. Stops (end_of self) false
+            tx.old.attempts.caller tx.new.attempts.caller stop.why) }
         ensures within { IfOk result (λ free. IfSome free (λ passed. passed < self.cells.capacity)) }
         ensures frees { IfOk result (λ free. Does L.holds (end_of self) (Frees self home reach free)
             tx.old.attempts.caller tx.new.attempts.caller) }
@@ -204,7 +211,8 @@ impl<V: Word> HashMap<V> {
         requires { at < self.cells.capacity }
         ensures keeps { Keeps tx.old.attempts.caller tx.new.attempts.caller }
         ensures notes { Notes L.holds (noting tx.old) (noting tx.new) }
-        ensures stops { IfErr result (λ stop. Stops (end_of self) tx.old.notes tx.old.attempts.caller stop.why) }
+        ensures stops { IfErr result (λ stop. Stops (end_of self) tx.old.notes
+            tx.old.attempts.caller tx.new.attempts.caller stop.why) }
         ensures stores { OnOk result (Does L.holds (end_of self) (Stores V.found self at key value)
             tx.old.attempts.caller tx.new.attempts.caller) }
         ensures may { OnOk result ((map : List Val) × MayBegin L.holds tx.new.attempts.caller map) }
@@ -219,7 +227,8 @@ impl<V: Word> HashMap<V> {
         requires { at < self.cells.capacity }
         ensures keeps { Keeps tx.old.attempts.caller tx.new.attempts.caller }
         ensures notes { Notes L.holds (noting tx.old) (noting tx.new) }
-        ensures stops { IfErr result (λ stop. Stops (end_of self) tx.old.notes tx.old.attempts.caller stop.why) }
+        ensures stops { IfErr result (λ stop. Stops (end_of self) tx.old.notes
+            tx.old.attempts.caller tx.new.attempts.caller stop.why) }
         ensures sets { OnOk result (Does L.holds (end_of self) (SetsKey self at key)
             tx.old.attempts.caller tx.new.attempts.caller) }
         ensures may { OnOk result ((map : List Val) × MayBegin L.holds tx.new.attempts.caller map) }
@@ -234,7 +243,8 @@ impl<V: Word> HashMap<V> {
         requires far { far ≤ self.cells.capacity }
         ensures keeps { Keeps tx.old.attempts.caller tx.new.attempts.caller }
         ensures notes { Notes L.holds (noting tx.old) (noting tx.new) }
-        ensures stops { IfErr result (λ stop. Stops (end_of self) tx.old.notes tx.old.attempts.caller stop.why) }
+        ensures stops { IfErr result (λ stop. Stops (end_of self) tx.old.notes
+            tx.old.attempts.caller tx.new.attempts.caller stop.why) }
         ensures sets { OnOk result (Does L.holds (end_of self) (SetsReach self home far)
             tx.old.attempts.caller tx.new.attempts.caller) }
         ensures may { OnOk result ((map : List Val) × MayBegin L.holds tx.new.attempts.caller map) }
@@ -247,7 +257,8 @@ impl<V: Word> HashMap<V> {
     pub(crate) fn clear<L: Law>(self, tx: &mut Tx<'_, L>, key: u64) -> Result<(), Stop>
         ensures keeps { Keeps tx.old.attempts.caller tx.new.attempts.caller }
         ensures notes { Notes L.holds (noting tx.old) (noting tx.new) }
-        ensures stops { IfErr result (λ stop. Stops (end_of self) tx.old.notes tx.old.attempts.caller stop.why) }
+        ensures stops { IfErr result (λ stop. Stops (end_of self) tx.old.notes
+            tx.old.attempts.caller tx.new.attempts.caller stop.why) }
         ensures clears { OnOk result (Does L.holds (end_of self) (ClearsAll self key)
             tx.old.attempts.caller tx.new.attempts.caller) }
         ensures may { OnOk result ((map : List Val) × MayBegin L.holds tx.new.attempts.caller map) }
@@ -265,7 +276,8 @@ impl<V: Word> HashMap<V> {
         requires { at < self.cells.capacity }
         ensures keeps { Keeps tx.old.attempts.caller tx.new.attempts.caller }
         ensures notes { Notes L.holds (noting tx.old) (noting tx.new) }
-        ensures stops { IfErr result (λ stop. Stops (end_of self) tx.old.notes tx.old.attempts.caller stop.why) }
+        ensures stops { IfErr result (λ stop. Stops (end_of self) tx.old.notes
+            tx.old.attempts.caller tx.new.attempts.caller stop.why) }
         ensures empties { OnOk result (Does L.holds (end_of self) (Empties self at key)
             tx.old.attempts.caller tx.new.attempts.caller) }
         ensures may { OnOk result ((map : List Val) × MayBegin L.holds tx.new.attempts.caller map) }
@@ -283,7 +295,8 @@ impl<V: Word> HashMap<V> {
         requires { home < self.cells.capacity }
         ensures keeps { Keeps tx.old.attempts.caller tx.new.attempts.caller }
         ensures notes { Notes L.holds (noting tx.old) (noting tx.new) }
-        ensures stops { IfErr result (λ stop. Stops (end_of self) false tx.old.attempts.caller stop.why) }
+        ensures stops { IfErr result (λ stop. Stops (end_of self) false
+            tx.old.attempts.caller tx.new.attempts.caller stop.why) }
         ensures most { IfOk result (λ reach. reach ≤ self.cells.capacity) }
         ensures reaches { IfOk result (λ reach. Does L.holds (end_of self) (Reaches self home reach)
             tx.old.attempts.caller tx.new.attempts.caller) }

@@ -95,7 +95,8 @@ impl Order {
     pub(crate) fn end<L: Law>(self, tx: &mut Tx<'_, L>, greatest: bool) -> Result<Option<u32>, Stop>
         ensures keeps { Keeps tx.old.attempts.caller tx.new.attempts.caller }
         ensures notes { Notes L.holds (noting tx.old) (noting tx.new) }
-        ensures stops { IfErr result (λ stop. Stops (order_end self.cells) false tx.old.attempts.caller stop.why) }
+        ensures stops { IfErr result (λ stop. Stops (order_end self.cells) false
+            tx.old.attempts.caller tx.new.attempts.caller stop.why) }
         ensures within { IfOk result (λ place. IfSome place (λ at. at < self.cells.capacity)) }
         ensures ends { IfOk result (λ place. Does L.holds (order_end self.cells) (EndsAll self.cells greatest place)
             tx.old.attempts.caller tx.new.attempts.caller) }
@@ -110,7 +111,8 @@ impl Order {
     pub(crate) fn next<L: Law>(self, tx: &mut Tx<'_, L>, key: u64) -> Result<Option<u32>, Stop>
         ensures keeps { Keeps tx.old.attempts.caller tx.new.attempts.caller }
         ensures notes { Notes L.holds (noting tx.old) (noting tx.new) }
-        ensures stops { IfErr result (λ stop. Stops (order_end self.cells) false tx.old.attempts.caller stop.why) }
+        ensures stops { IfErr result (λ stop. Stops (order_end self.cells) false
+            tx.old.attempts.caller tx.new.attempts.caller stop.why) }
         ensures within { IfOk result (λ place. IfSome place (λ at. at < self.cells.capacity)) }
         ensures follows { IfOk result (λ place. Does L.holds (order_end self.cells) (FollowsAll self.cells key place)
             tx.old.attempts.caller tx.new.attempts.caller) }
@@ -132,7 +134,8 @@ impl Order {
         requires { under ≤ 64 }
         ensures keeps { Keeps tx.old.attempts.caller tx.new.attempts.caller }
         ensures notes { Notes L.holds (noting tx.old) (noting tx.new) }
-        ensures stops { IfErr result (λ stop. Stops (order_end self.cells) false tx.old.attempts.caller stop.why) }
+        ensures stops { IfErr result (λ stop. Stops (order_end self.cells) false
+            tx.old.attempts.caller tx.new.attempts.caller stop.why) }
         ensures within { IfOk result (λ place. IfSome place (λ at. at < self.cells.capacity)) }
         ensures ends { IfOk result (λ place. Does L.holds (order_end self.cells) (Ends self.cells greatest link under place)
             tx.old.attempts.caller tx.new.attempts.caller) }
@@ -163,7 +166,8 @@ impl Order {
         requires { under ≤ 64 }
         ensures keeps { Keeps tx.old.attempts.caller tx.new.attempts.caller }
         ensures notes { Notes L.holds (noting tx.old) (noting tx.new) }
-        ensures stops { IfErr result (λ stop. Stops (order_end self.cells) false tx.old.attempts.caller stop.why) }
+        ensures stops { IfErr result (λ stop. Stops (order_end self.cells) false
+            tx.old.attempts.caller tx.new.attempts.caller stop.why) }
         ensures within { IfOk result (λ place. IfSome place (λ at. at < self.cells.capacity)) }
         ensures follows { IfOk result (λ place. Does L.holds (order_end self.cells) (Follows self.cells key link under place)
             tx.old.attempts.caller tx.new.attempts.caller) }

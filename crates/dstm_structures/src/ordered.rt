@@ -62,7 +62,8 @@ impl<V: Word> OrderedMap<V> {
     pub fn get<L: Law>(self, tx: &mut Tx<'_, L>, key: u64) -> Result<Option<V>, Stop>
         ensures keeps { Keeps tx.old.attempts.caller tx.new.attempts.caller }
         ensures notes { Notes L.holds (noting tx.old) (noting tx.new) }
-        ensures stops { IfErr result (λ stop. Stops (end_of self.map) false tx.old.attempts.caller stop.why) }
+        ensures stops { IfErr result (λ stop. Stops (end_of self.map) false
+            tx.old.attempts.caller tx.new.attempts.caller stop.why) }
         ensures tells { IfOk result (λ answer. Does L.holds (end_of self.map) (Tells V.found self.map key answer)
             tx.old.attempts.caller tx.new.attempts.caller) }
         ensures may { OnOk result ((map : List Val) × MayBegin L.holds tx.new.attempts.caller map) }
@@ -74,7 +75,8 @@ impl<V: Word> OrderedMap<V> {
     pub fn contains<L: Law>(self, tx: &mut Tx<'_, L>, key: u64) -> Result<bool, Stop>
         ensures keeps { Keeps tx.old.attempts.caller tx.new.attempts.caller }
         ensures notes { Notes L.holds (noting tx.old) (noting tx.new) }
-        ensures stops { IfErr result (λ stop. Stops (end_of self.map) false tx.old.attempts.caller stop.why) }
+        ensures stops { IfErr result (λ stop. Stops (end_of self.map) false
+            tx.old.attempts.caller tx.new.attempts.caller stop.why) }
         ensures tells { IfOk result (λ answer. Does L.holds (end_of self.map) (TellsIf V.found self.map key answer)
             tx.old.attempts.caller tx.new.attempts.caller) }
         ensures may { OnOk result ((map : List Val) × MayBegin L.holds tx.new.attempts.caller map) }
@@ -86,7 +88,8 @@ impl<V: Word> OrderedMap<V> {
     pub fn put<L: Law>(self, tx: &mut Tx<'_, L>, key: u64, value: V) -> Result<Placed<V>, Stop>
         ensures keeps { Keeps tx.old.attempts.caller tx.new.attempts.caller }
         ensures notes { Notes L.holds (noting tx.old) (noting tx.new) }
-        ensures stops { IfErr result (λ stop. Stops (order_end self.map.cells) tx.old.notes tx.old.attempts.caller stop.why) }
+        ensures stops { IfErr result (λ stop. Stops (order_end self.map.cells) tx.old.notes
+            tx.old.attempts.caller tx.new.attempts.caller stop.why) }
         ensures puts { IfOk result (λ placed. Does L.holds (order_end self.map.cells) (Puts V.found self key value placed)
             tx.old.attempts.caller tx.new.attempts.caller) }
         ensures may { OnOk result ((map : List Val) × MayBegin L.holds tx.new.attempts.caller map) }
@@ -104,7 +107,8 @@ impl<V: Word> OrderedMap<V> {
     pub fn remove<L: Law>(self, tx: &mut Tx<'_, L>, key: u64) -> Result<Option<V>, Stop>
         ensures keeps { Keeps tx.old.attempts.caller tx.new.attempts.caller }
         ensures notes { Notes L.holds (noting tx.old) (noting tx.new) }
-        ensures stops { IfErr result (λ stop. Stops (order_end self.map.cells) tx.old.notes tx.old.attempts.caller stop.why) }
+        ensures stops { IfErr result (λ stop. Stops (order_end self.map.cells) tx.old.notes
+            tx.old.attempts.caller tx.new.attempts.caller stop.why) }
         ensures removes { IfOk result (λ removed. Does L.holds (order_end self.map.cells) (Removes V.found self key removed)
             tx.old.attempts.caller tx.new.attempts.caller) }
         ensures may { OnOk result ((map : List Val) × MayBegin L.holds tx.new.attempts.caller map) }
@@ -122,7 +126,8 @@ impl<V: Word> OrderedMap<V> {
     pub fn first<L: Law>(self, tx: &mut Tx<'_, L>) -> Result<Option<(u64, V)>, Stop>
         ensures keeps { Keeps tx.old.attempts.caller tx.new.attempts.caller }
         ensures notes { Notes L.holds (noting tx.old) (noting tx.new) }
-        ensures stops { IfErr result (λ stop. Stops (order_end self.map.cells) false tx.old.attempts.caller stop.why) }
+        ensures stops { IfErr result (λ stop. Stops (order_end self.map.cells) false
+            tx.old.attempts.caller tx.new.attempts.caller stop.why) }
         ensures tells { IfOk result (λ answer. Does L.holds (order_end self.map.cells) (TellsFirst V.found self answer)
             tx.old.attempts.caller tx.new.attempts.caller) }
         ensures may { OnOk result ((map : List Val) × MayBegin L.holds tx.new.attempts.caller map) }
@@ -134,7 +139,8 @@ impl<V: Word> OrderedMap<V> {
     pub fn last<L: Law>(self, tx: &mut Tx<'_, L>) -> Result<Option<(u64, V)>, Stop>
         ensures keeps { Keeps tx.old.attempts.caller tx.new.attempts.caller }
         ensures notes { Notes L.holds (noting tx.old) (noting tx.new) }
-        ensures stops { IfErr result (λ stop. Stops (order_end self.map.cells) false tx.old.attempts.caller stop.why) }
+        ensures stops { IfErr result (λ stop. Stops (order_end self.map.cells) false
+            tx.old.attempts.caller tx.new.attempts.caller stop.why) }
         ensures tells { IfOk result (λ answer. Does L.holds (order_end self.map.cells) (TellsLast V.found self answer)
             tx.old.attempts.caller tx.new.attempts.caller) }
         ensures may { OnOk result ((map : List Val) × MayBegin L.holds tx.new.attempts.caller map) }
@@ -146,7 +152,8 @@ impl<V: Word> OrderedMap<V> {
     pub fn next_above<L: Law>(self, tx: &mut Tx<'_, L>, key: u64) -> Result<Option<(u64, V)>, Stop>
         ensures keeps { Keeps tx.old.attempts.caller tx.new.attempts.caller }
         ensures notes { Notes L.holds (noting tx.old) (noting tx.new) }
-        ensures stops { IfErr result (λ stop. Stops (order_end self.map.cells) false tx.old.attempts.caller stop.why) }
+        ensures stops { IfErr result (λ stop. Stops (order_end self.map.cells) false
+            tx.old.attempts.caller tx.new.attempts.caller stop.why) }
         ensures tells { IfOk result (λ answer. Does L.holds (order_end self.map.cells) (TellsAbove V.found self key answer)
             tx.old.attempts.caller tx.new.attempts.caller) }
         ensures may { OnOk result ((map : List Val) × MayBegin L.holds tx.new.attempts.caller map) }
@@ -163,7 +170,8 @@ impl<V: Word> OrderedMap<V> {
     pub fn pop_first<L: Law>(self, tx: &mut Tx<'_, L>) -> Result<Option<(u64, V)>, Stop>
         ensures keeps { Keeps tx.old.attempts.caller tx.new.attempts.caller }
         ensures notes { Notes L.holds (noting tx.old) (noting tx.new) }
-        ensures stops { IfErr result (λ stop. Stops (order_end self.map.cells) tx.old.notes tx.old.attempts.caller stop.why) }
+        ensures stops { IfErr result (λ stop. Stops (order_end self.map.cells) tx.old.notes
+            tx.old.attempts.caller tx.new.attempts.caller stop.why) }
         ensures pops { IfOk result (λ popped. Does L.holds (order_end self.map.cells) (Pops V.found self popped)
             tx.old.attempts.caller tx.new.attempts.caller) }
         ensures may { OnOk result ((map : List Val) × MayBegin L.holds tx.new.attempts.caller map) }
@@ -180,7 +188,8 @@ impl<V: Word> OrderedMap<V> {
     fn end<L: Law>(self, tx: &mut Tx<'_, L>, greatest: bool) -> Result<Option<(u64, V)>, Stop>
         ensures keeps { Keeps tx.old.attempts.caller tx.new.attempts.caller }
         ensures notes { Notes L.holds (noting tx.old) (noting tx.new) }
-        ensures stops { IfErr result (λ stop. Stops (order_end self.map.cells) false tx.old.attempts.caller stop.why) }
+        ensures stops { IfErr result (λ stop. Stops (order_end self.map.cells) false
+            tx.old.attempts.caller tx.new.attempts.caller stop.why) }
         ensures tells { IfOk result (λ answer. Does L.holds (order_end self.map.cells) (TellsEnd V.found self greatest answer)
             tx.old.attempts.caller tx.new.attempts.caller) }
         ensures may { OnOk result ((map : List Val) × MayBegin L.holds tx.new.attempts.caller map) }
@@ -202,7 +211,8 @@ impl<V: Word> OrderedMap<V> {
     ) -> Result<Placed<V>, Stop>
         ensures keeps { Keeps tx.old.attempts.caller tx.new.attempts.caller }
         ensures notes { Notes L.holds (noting tx.old) (noting tx.new) }
-        ensures stops { IfErr result (λ stop. Stops (order_end self.map.cells) tx.old.notes tx.old.attempts.caller stop.why) }
+        ensures stops { IfErr result (λ stop. Stops (order_end self.map.cells) tx.old.notes
+            tx.old.attempts.caller tx.new.attempts.caller stop.why) }
         ensures adds { IfOk result (λ placed. Does L.holds (order_end self.map.cells) (Adding V.found self key value placed)
             tx.old.attempts.caller tx.new.attempts.caller) }
         ensures may { OnOk result (StillMay L.holds tx.old.attempts.caller tx.new.attempts.caller) }
@@ -227,7 +237,8 @@ impl<V: Word> OrderedMap<V> {
         requires { at < self.map.cells.capacity }
         ensures keeps { Keeps tx.old.attempts.caller tx.new.attempts.caller }
         ensures notes { Notes L.holds (noting tx.old) (noting tx.new) }
-        ensures stops { IfErr result (λ stop. Stops (order_end self.map.cells) tx.old.notes tx.old.attempts.caller stop.why) }
+        ensures stops { IfErr result (λ stop. Stops (order_end self.map.cells) tx.old.notes
+            tx.old.attempts.caller tx.new.attempts.caller stop.why) }
         ensures takes { OnOk result (Does L.holds (order_end self.map.cells) (Takes V.found self key at)
             tx.old.attempts.caller tx.new.attempts.caller) }
         ensures may { OnOk result ((map : List Val) × MayBegin L.holds tx.new.attempts.caller map) }
@@ -245,7 +256,8 @@ impl<V: Word> OrderedMap<V> {
         requires { IfSome place (λ at. at < self.map.cells.capacity) }
         ensures keeps { Keeps tx.old.attempts.caller tx.new.attempts.caller }
         ensures notes { Notes L.holds (noting tx.old) (noting tx.new) }
-        ensures stops { IfErr result (λ stop. Stops (order_end self.map.cells) false tx.old.attempts.caller stop.why) }
+        ensures stops { IfErr result (λ stop. Stops (order_end self.map.cells) false
+            tx.old.attempts.caller tx.new.attempts.caller stop.why) }
         ensures looks { IfOk result (λ answer. Does L.holds (order_end self.map.cells) (Looks V.found self place answer)
             tx.old.attempts.caller tx.new.attempts.caller) }
         ensures may { OnOk result (StillMay L.holds tx.old.attempts.caller tx.new.attempts.caller) }

@@ -57,7 +57,8 @@ impl<T: Word> Queue<T> {
     pub fn len<L: Law>(self, tx: &mut Tx<'_, L>) -> Result<u32, Stop>
         ensures keeps { Keeps tx.old.attempts.caller tx.new.attempts.caller }
         ensures notes { Notes L.holds (noting tx.old) (noting tx.new) }
-        ensures stops { IfErr result (λ stop. Stops (end_of self) false tx.old.attempts.caller stop.why) }
+        ensures stops { IfErr result (λ stop. Stops (end_of self) false
+            tx.old.attempts.caller tx.new.attempts.caller stop.why) }
         ensures counts { IfOk result (λ count. Does L.holds (end_of self) (Counts T.found self count)
             tx.old.attempts.caller tx.new.attempts.caller) }
         ensures may { OnOk result ((map : List Val) × MayBegin L.holds tx.new.attempts.caller map) }
@@ -70,7 +71,8 @@ impl<T: Word> Queue<T> {
     pub fn try_push<L: Law>(self, tx: &mut Tx<'_, L>, value: T) -> Result<bool, Stop>
         ensures keeps { Keeps tx.old.attempts.caller tx.new.attempts.caller }
         ensures notes { Notes L.holds (noting tx.old) (noting tx.new) }
-        ensures stops { IfErr result (λ stop. Stops (end_of self) tx.old.notes tx.old.attempts.caller stop.why) }
+        ensures stops { IfErr result (λ stop. Stops (end_of self) tx.old.notes
+            tx.old.attempts.caller tx.new.attempts.caller stop.why) }
         ensures pushes { IfOk result (λ pushed. Does L.holds (end_of self) (Pushes T.found self value pushed)
             tx.old.attempts.caller tx.new.attempts.caller) }
         ensures may { OnOk result ((map : List Val) × MayBegin L.holds tx.new.attempts.caller map) }
@@ -89,6 +91,8 @@ impl<T: Word> Queue<T> {
     pub fn push<L: Law>(self, tx: &mut Tx<'_, L>, value: T) -> Result<(), Stop>
         ensures keeps { Keeps tx.old.attempts.caller tx.new.attempts.caller }
         ensures notes { Notes L.holds (noting tx.old) (noting tx.new) }
+        ensures stops { IfErr result (λ stop. (stop.why ≡ Retry)
+            ⊎ Stops (end_of self) tx.old.notes tx.old.attempts.caller tx.new.attempts.caller stop.why) }
         ensures retries { result ≡ Err (stop_by Retry) → Does L.holds (end_of self) (Counts T.found self self.cells.capacity)
             tx.old.attempts.caller tx.new.attempts.caller }
         ensures pushes { OnOk result (Does L.holds (end_of self) (PutsLast T.found self value)
@@ -104,7 +108,8 @@ impl<T: Word> Queue<T> {
     pub fn try_pop<L: Law>(self, tx: &mut Tx<'_, L>) -> Result<Option<T>, Stop>
         ensures keeps { Keeps tx.old.attempts.caller tx.new.attempts.caller }
         ensures notes { Notes L.holds (noting tx.old) (noting tx.new) }
-        ensures stops { IfErr result (λ stop. Stops (end_of self) tx.old.notes tx.old.attempts.caller stop.why) }
+        ensures stops { IfErr result (λ stop. Stops (end_of self) tx.old.notes
+            tx.old.attempts.caller tx.new.attempts.caller stop.why) }
         ensures pops { IfOk result (λ popped. Does L.holds (end_of self) (Pops T.found self popped)
             tx.old.attempts.caller tx.new.attempts.caller) }
         ensures may { OnOk result ((map : List Val) × MayBegin L.holds tx.new.attempts.caller map) }
@@ -123,6 +128,8 @@ impl<T: Word> Queue<T> {
     pub fn pop<L: Law>(self, tx: &mut Tx<'_, L>) -> Result<T, Stop>
         ensures keeps { Keeps tx.old.attempts.caller tx.new.attempts.caller }
         ensures notes { Notes L.holds (noting tx.old) (noting tx.new) }
+        ensures stops { IfErr result (λ stop. (stop.why ≡ Retry)
+            ⊎ Stops (end_of self) tx.old.notes tx.old.attempts.caller tx.new.attempts.caller stop.why) }
         ensures retries { result ≡ Err (stop_by Retry) → Does L.holds (end_of self) (Counts T.found self 0)
             tx.old.attempts.caller tx.new.attempts.caller }
         ensures pops { IfOk result (λ value. Does L.holds (end_of self) (TakesFirst T.found self value)
@@ -141,7 +148,8 @@ impl<T: Word> Queue<T> {
     pub fn front<L: Law>(self, tx: &mut Tx<'_, L>) -> Result<Option<T>, Stop>
         ensures keeps { Keeps tx.old.attempts.caller tx.new.attempts.caller }
         ensures notes { Notes L.holds (noting tx.old) (noting tx.new) }
-        ensures stops { IfErr result (λ stop. Stops (end_of self) false tx.old.attempts.caller stop.why) }
+        ensures stops { IfErr result (λ stop. Stops (end_of self) false
+            tx.old.attempts.caller tx.new.attempts.caller stop.why) }
         ensures fronts { IfOk result (λ front. Does L.holds (end_of self) (Fronts T.found self front)
             tx.old.attempts.caller tx.new.attempts.caller) }
         ensures may { OnOk result ((map : List Val) × MayBegin L.holds tx.new.attempts.caller map) }

@@ -74,7 +74,8 @@ impl OrderedSet {
     pub fn contains<L: Law>(self, tx: &mut Tx<'_, L>, key: u64) -> Result<bool, Stop>
         ensures keeps { Keeps tx.old.attempts.caller tx.new.attempts.caller }
         ensures notes { Notes L.holds (noting tx.old) (noting tx.new) }
-        ensures stops { IfErr result (λ stop. Stops (end_of self.map.map) false tx.old.attempts.caller stop.why) }
+        ensures stops { IfErr result (λ stop. Stops (end_of self.map.map) false
+            tx.old.attempts.caller tx.new.attempts.caller stop.why) }
         ensures tells { IfOk result (λ answer. Does L.holds (end_of self.map.map) (TellsIf self key answer)
             tx.old.attempts.caller tx.new.attempts.caller) }
         ensures may { OnOk result ((map : List Val) × MayBegin L.holds tx.new.attempts.caller map) }
@@ -86,7 +87,8 @@ impl OrderedSet {
     pub fn insert<L: Law>(self, tx: &mut Tx<'_, L>, key: u64) -> Result<Inserted, Stop>
         ensures keeps { Keeps tx.old.attempts.caller tx.new.attempts.caller }
         ensures notes { Notes L.holds (noting tx.old) (noting tx.new) }
-        ensures stops { IfErr result (λ stop. Stops (order_end self.map.map.cells) tx.old.notes tx.old.attempts.caller stop.why) }
+        ensures stops { IfErr result (λ stop. Stops (order_end self.map.map.cells) tx.old.notes
+            tx.old.attempts.caller tx.new.attempts.caller stop.why) }
         ensures inserts { IfOk result (λ inserted. Does L.holds (order_end self.map.map.cells) (Inserts self key inserted)
             tx.old.attempts.caller tx.new.attempts.caller) }
         ensures may { OnOk result ((map : List Val) × MayBegin L.holds tx.new.attempts.caller map) }
@@ -103,7 +105,8 @@ impl OrderedSet {
     pub fn remove<L: Law>(self, tx: &mut Tx<'_, L>, key: u64) -> Result<bool, Stop>
         ensures keeps { Keeps tx.old.attempts.caller tx.new.attempts.caller }
         ensures notes { Notes L.holds (noting tx.old) (noting tx.new) }
-        ensures stops { IfErr result (λ stop. Stops (order_end self.map.map.cells) tx.old.notes tx.old.attempts.caller stop.why) }
+        ensures stops { IfErr result (λ stop. Stops (order_end self.map.map.cells) tx.old.notes
+            tx.old.attempts.caller tx.new.attempts.caller stop.why) }
         ensures removes { IfOk result (λ removed. Does L.holds (order_end self.map.map.cells) (Removes self key removed)
             tx.old.attempts.caller tx.new.attempts.caller) }
         ensures may { OnOk result ((map : List Val) × MayBegin L.holds tx.new.attempts.caller map) }
@@ -116,7 +119,8 @@ impl OrderedSet {
     pub fn first<L: Law>(self, tx: &mut Tx<'_, L>) -> Result<Option<u64>, Stop>
         ensures keeps { Keeps tx.old.attempts.caller tx.new.attempts.caller }
         ensures notes { Notes L.holds (noting tx.old) (noting tx.new) }
-        ensures stops { IfErr result (λ stop. Stops (order_end self.map.map.cells) false tx.old.attempts.caller stop.why) }
+        ensures stops { IfErr result (λ stop. Stops (order_end self.map.map.cells) false
+            tx.old.attempts.caller tx.new.attempts.caller stop.why) }
         ensures tells { IfOk result (λ answer. Does L.holds (order_end self.map.map.cells) (TellsFirst self answer)
             tx.old.attempts.caller tx.new.attempts.caller) }
         ensures may { OnOk result ((map : List Val) × MayBegin L.holds tx.new.attempts.caller map) }
@@ -129,7 +133,8 @@ impl OrderedSet {
     pub fn last<L: Law>(self, tx: &mut Tx<'_, L>) -> Result<Option<u64>, Stop>
         ensures keeps { Keeps tx.old.attempts.caller tx.new.attempts.caller }
         ensures notes { Notes L.holds (noting tx.old) (noting tx.new) }
-        ensures stops { IfErr result (λ stop. Stops (order_end self.map.map.cells) false tx.old.attempts.caller stop.why) }
+        ensures stops { IfErr result (λ stop. Stops (order_end self.map.map.cells) false
+            tx.old.attempts.caller tx.new.attempts.caller stop.why) }
         ensures tells { IfOk result (λ answer. Does L.holds (order_end self.map.map.cells) (TellsLast self answer)
             tx.old.attempts.caller tx.new.attempts.caller) }
         ensures may { OnOk result ((map : List Val) × MayBegin L.holds tx.new.attempts.caller map) }
@@ -142,7 +147,8 @@ impl OrderedSet {
     pub fn next_above<L: Law>(self, tx: &mut Tx<'_, L>, key: u64) -> Result<Option<u64>, Stop>
         ensures keeps { Keeps tx.old.attempts.caller tx.new.attempts.caller }
         ensures notes { Notes L.holds (noting tx.old) (noting tx.new) }
-        ensures stops { IfErr result (λ stop. Stops (order_end self.map.map.cells) false tx.old.attempts.caller stop.why) }
+        ensures stops { IfErr result (λ stop. Stops (order_end self.map.map.cells) false
+            tx.old.attempts.caller tx.new.attempts.caller stop.why) }
         ensures tells { IfOk result (λ answer. Does L.holds (order_end self.map.map.cells) (TellsAbove self key answer)
             tx.old.attempts.caller tx.new.attempts.caller) }
         ensures may { OnOk result ((map : List Val) × MayBegin L.holds tx.new.attempts.caller map) }
@@ -155,7 +161,8 @@ impl OrderedSet {
     pub fn pop_first<L: Law>(self, tx: &mut Tx<'_, L>) -> Result<Option<u64>, Stop>
         ensures keeps { Keeps tx.old.attempts.caller tx.new.attempts.caller }
         ensures notes { Notes L.holds (noting tx.old) (noting tx.new) }
-        ensures stops { IfErr result (λ stop. Stops (order_end self.map.map.cells) tx.old.notes tx.old.attempts.caller stop.why) }
+        ensures stops { IfErr result (λ stop. Stops (order_end self.map.map.cells) tx.old.notes
+            tx.old.attempts.caller tx.new.attempts.caller stop.why) }
         ensures pops { IfOk result (λ popped. Does L.holds (order_end self.map.map.cells) (Pops self popped)
             tx.old.attempts.caller tx.new.attempts.caller) }
         ensures may { OnOk result ((map : List Val) × MayBegin L.holds tx.new.attempts.caller map) }

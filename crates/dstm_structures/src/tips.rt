@@ -33,7 +33,8 @@ impl Order {
         requires cell { cell < self.cells.capacity }
         ensures keeps { Keeps tx.old.attempts.caller tx.new.attempts.caller }
         ensures notes { Notes L.holds (noting tx.old) (noting tx.new) }
-        ensures stops { IfErr result (λ stop. Stops (order_end self.cells) tx.old.notes tx.old.attempts.caller stop.why) }
+        ensures stops { IfErr result (λ stop. Stops (order_end self.cells) tx.old.notes
+            tx.old.attempts.caller tx.new.attempts.caller stop.why) }
         ensures adds { OnOk result (Does L.holds (order_end self.cells) (AddsKey self.cells key at cell)
             tx.old.attempts.caller tx.new.attempts.caller) }
         ensures may { OnOk result ((map : List Val) × MayBegin L.holds tx.new.attempts.caller map) }
@@ -48,7 +49,8 @@ impl Order {
     pub(crate) fn drop_key<L: Law>(self, tx: &mut Tx<'_, L>, key: u64, at: u32) -> Result<(), Stop>
         ensures keeps { Keeps tx.old.attempts.caller tx.new.attempts.caller }
         ensures notes { Notes L.holds (noting tx.old) (noting tx.new) }
-        ensures stops { IfErr result (λ stop. Stops (order_end self.cells) tx.old.notes tx.old.attempts.caller stop.why) }
+        ensures stops { IfErr result (λ stop. Stops (order_end self.cells) tx.old.notes
+            tx.old.attempts.caller tx.new.attempts.caller stop.why) }
         ensures drops { OnOk result (Does L.holds (order_end self.cells) (DropsKey self.cells key at)
             tx.old.attempts.caller tx.new.attempts.caller) }
         ensures may { OnOk result ((map : List Val) × MayBegin L.holds tx.new.attempts.caller map) }
@@ -68,7 +70,8 @@ impl Order {
         requires { home < self.cells.capacity }
         ensures keeps { Keeps tx.old.attempts.caller tx.new.attempts.caller }
         ensures notes { Notes L.holds (noting tx.old) (noting tx.new) }
-        ensures stops { IfErr result (λ stop. Stops (order_end self.cells) false tx.old.attempts.caller stop.why) }
+        ensures stops { IfErr result (λ stop. Stops (order_end self.cells) false
+            tx.old.attempts.caller tx.new.attempts.caller stop.why) }
         ensures within { IfOk result (λ free. IfSome free (λ cell. cell < self.cells.capacity)) }
         ensures seeks { IfOk result (λ free. Does L.holds (order_end self.cells) (SeeksFork self.cells free)
             tx.old.attempts.caller tx.new.attempts.caller) }
@@ -97,7 +100,8 @@ impl Order {
         requires under { under ≤ 64 }
         ensures keeps { Keeps tx.old.attempts.caller tx.new.attempts.caller }
         ensures notes { Notes L.holds (noting tx.old) (noting tx.new) }
-        ensures stops { IfErr result (λ stop. Stops (order_end self.cells) tx.old.notes tx.old.attempts.caller stop.why) }
+        ensures stops { IfErr result (λ stop. Stops (order_end self.cells) tx.old.notes
+            tx.old.attempts.caller tx.new.attempts.caller stop.why) }
         ensures few { IfOk result (λ now. now < 268435456) }
         ensures adds { IfOk result (λ now. Does L.holds (order_end self.cells)
             (AddsTip self.cells added.key added.at added.cell link under now)
@@ -135,7 +139,8 @@ impl Order {
         requires place { place < self.cells.capacity }
         ensures keeps { Keeps tx.old.attempts.caller tx.new.attempts.caller }
         ensures notes { Notes L.holds (noting tx.old) (noting tx.new) }
-        ensures stops { IfErr result (λ stop. Stops (order_end self.cells) tx.old.notes tx.old.attempts.caller stop.why) }
+        ensures stops { IfErr result (λ stop. Stops (order_end self.cells) tx.old.notes
+            tx.old.attempts.caller tx.new.attempts.caller stop.why) }
         ensures few { IfOk result (λ now. now < 268435456) }
         ensures adds { IfOk result (λ now. Does L.holds (order_end self.cells)
             (AddsBeside self.cells added.key added.at added.cell place now)
@@ -176,7 +181,8 @@ impl Order {
         requires other { added.key / 2 ^ fork.level / 2 ≢ fork.prefix }
         ensures keeps { Keeps tx.old.attempts.caller tx.new.attempts.caller }
         ensures notes { Notes L.holds (noting tx.old) (noting tx.new) }
-        ensures stops { IfErr result (λ stop. Stops (order_end self.cells) tx.old.notes tx.old.attempts.caller stop.why) }
+        ensures stops { IfErr result (λ stop. Stops (order_end self.cells) tx.old.notes
+            tx.old.attempts.caller tx.new.attempts.caller stop.why) }
         ensures few { IfOk result (λ now. now < 268435456) }
         ensures adds { IfOk result (λ now. Does L.holds (order_end self.cells)
             (AddsOver self.cells added.key added.at added.cell over fork now)
@@ -213,7 +219,8 @@ impl Order {
         requires { under ≤ 64 }
         ensures keeps { Keeps tx.old.attempts.caller tx.new.attempts.caller }
         ensures notes { Notes L.holds (noting tx.old) (noting tx.new) }
-        ensures stops { IfErr result (λ stop. Stops (order_end self.cells) tx.old.notes tx.old.attempts.caller stop.why) }
+        ensures stops { IfErr result (λ stop. Stops (order_end self.cells) tx.old.notes
+            tx.old.attempts.caller tx.new.attempts.caller stop.why) }
         ensures few { IfOk result (λ now. now < 268435456) }
         ensures drops { IfOk result (λ now. Does L.holds (order_end self.cells) (DropsTip self.cells key at link under now)
             tx.old.attempts.caller tx.new.attempts.caller) }
@@ -254,7 +261,8 @@ impl Order {
         requires { cell < self.cells.capacity }
         ensures keeps { Keeps tx.old.attempts.caller tx.new.attempts.caller }
         ensures notes { Notes L.holds (noting tx.old) (noting tx.new) }
-        ensures stops { IfErr result (λ stop. Stops (order_end self.cells) false tx.old.attempts.caller stop.why) }
+        ensures stops { IfErr result (λ stop. Stops (order_end self.cells) false
+            tx.old.attempts.caller tx.new.attempts.caller stop.why) }
         ensures left { IfOk result (λ fork. fork.left < 268435456) }
         ensures right { IfOk result (λ fork. fork.right < 268435456) }
         ensures looks { IfOk result (λ fork. Does L.holds (order_end self.cells) (LooksFork self.cells cell fork)
@@ -273,7 +281,8 @@ impl Order {
         requires right { fork.right < 268435456 }
         ensures keeps { Keeps tx.old.attempts.caller tx.new.attempts.caller }
         ensures notes { Notes L.holds (noting tx.old) (noting tx.new) }
-        ensures stops { IfErr result (λ stop. Stops (order_end self.cells) tx.old.notes tx.old.attempts.caller stop.why) }
+        ensures stops { IfErr result (λ stop. Stops (order_end self.cells) tx.old.notes
+            tx.old.attempts.caller tx.new.attempts.caller stop.why) }
         ensures sets { OnOk result (Does L.holds (order_end self.cells) (SetsFork self.cells cell fork)
             tx.old.attempts.caller tx.new.attempts.caller) }
         ensures may { OnOk result ((map : List Val) × MayBegin L.holds tx.new.attempts.caller map) }
@@ -298,7 +307,8 @@ impl Order {
         requires link { link < 268435456 }
         ensures keeps { Keeps tx.old.attempts.caller tx.new.attempts.caller }
         ensures notes { Notes L.holds (noting tx.old) (noting tx.new) }
-        ensures stops { IfErr result (λ stop. Stops (order_end self.cells) tx.old.notes tx.old.attempts.caller stop.why) }
+        ensures stops { IfErr result (λ stop. Stops (order_end self.cells) tx.old.notes
+            tx.old.attempts.caller tx.new.attempts.caller stop.why) }
         ensures sets { OnOk result (Does L.holds (order_end self.cells) (SetsSide self.cells cell fork greater link)
             tx.old.attempts.caller tx.new.attempts.caller) }
         ensures stays { (if greater then fork.right else fork.left) ≡ link → tx.new ≡ tx.old }
@@ -315,7 +325,8 @@ impl Order {
     fn set_root<L: Law>(self, tx: &mut Tx<'_, L>, was: u64, now: u64) -> Result<(), Stop>
         ensures keeps { Keeps tx.old.attempts.caller tx.new.attempts.caller }
         ensures notes { Notes L.holds (noting tx.old) (noting tx.new) }
-        ensures stops { IfErr result (λ stop. Stops (order_end self.cells) tx.old.notes tx.old.attempts.caller stop.why) }
+        ensures stops { IfErr result (λ stop. Stops (order_end self.cells) tx.old.notes
+            tx.old.attempts.caller tx.new.attempts.caller stop.why) }
         ensures sets { OnOk result (Does L.holds (order_end self.cells) (SetsRoot self.cells was now)
             tx.old.attempts.caller tx.new.attempts.caller) }
         ensures stays { was ≡ now → tx.new ≡ tx.old }
@@ -333,7 +344,8 @@ impl Order {
         requires { cell < self.cells.capacity }
         ensures keeps { Keeps tx.old.attempts.caller tx.new.attempts.caller }
         ensures notes { Notes L.holds (noting tx.old) (noting tx.new) }
-        ensures stops { IfErr result (λ stop. Stops (order_end self.cells) tx.old.notes tx.old.attempts.caller stop.why) }
+        ensures stops { IfErr result (λ stop. Stops (order_end self.cells) tx.old.notes
+            tx.old.attempts.caller tx.new.attempts.caller stop.why) }
         ensures frees { OnOk result (Does L.holds (order_end self.cells) (FreesFork self.cells cell)
             tx.old.attempts.caller tx.new.attempts.caller) }
         ensures may { OnOk result ((map : List Val) × MayBegin L.holds tx.new.attempts.caller map) }

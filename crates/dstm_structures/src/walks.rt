@@ -15,7 +15,7 @@ impl<V: Word> HashMap<V> {
     // The value of a key, if it is there.
     pub(crate) fn item_by<B: Looks>(self, by: &mut B, key: u64) -> Result<Option<V>, B::Err>
         ensures stays { B.Stays by.old by.new }
-        ensures fails { IfErr result (B.Fails false (end_of self) by.old) }
+        ensures fails { IfErr result (B.Fails false (end_of self) by.old by.new) }
         ensures tells { IfOk result (λ answer. Shows B.Stands (λ values. Tells V.found self key answer values values) by.new) }
         ensures may { OnOk result (StandsSomewhere B.Stands by.new) }
     {
@@ -30,7 +30,7 @@ impl<V: Word> HashMap<V> {
     // The place of a key, if it is there.
     pub(crate) fn find_by<B: Looks>(self, by: &mut B, key: u64) -> Result<Option<u32>, B::Err>
         ensures stays { B.Stays by.old by.new }
-        ensures fails { IfErr result (B.Fails false (end_of self) by.old) }
+        ensures fails { IfErr result (B.Fails false (end_of self) by.old by.new) }
         ensures within { IfOk result (λ place. IfSome place (λ at. at < self.cells.capacity)) }
         ensures seeks { IfOk result (λ place. Shows B.Stands (λ values. Seeks self key place values values) by.new) }
         ensures may { OnOk result (StandsSomewhere B.Stands by.new) }
@@ -58,7 +58,7 @@ impl<V: Word> HashMap<V> {
     pub(crate) fn reach_by<B: Looks>(self, by: &mut B, home: u32) -> Result<u32, B::Err>
         requires { home < self.cells.capacity }
         ensures stays { B.Stays by.old by.new }
-        ensures fails { IfErr result (B.Fails false (end_of self) by.old) }
+        ensures fails { IfErr result (B.Fails false (end_of self) by.old by.new) }
         ensures most { IfOk result (λ reach. reach ≤ self.cells.capacity) }
         ensures reaches { IfOk result (λ reach. Shows B.Stands (λ values. Reaches self home reach values values) by.new) }
         ensures may { OnOk result (StandsSomewhere B.Stands by.new) }
@@ -85,7 +85,7 @@ impl<V: Word> HashMap<V> {
         alloc: Global,
     ) -> Result<Vec<(u64, V)>, B::Err>
         ensures stays { B.Stays by.old by.new }
-        ensures fails { IfErr result (B.Fails true (end_of self) by.old) }
+        ensures fails { IfErr result (B.Fails true (end_of self) by.old by.new) }
         ensures lists { IfOk result (λ items. Shows B.Stands (λ values. Lists V.found self items.items values values) by.new) }
         ensures may { OnOk result (StandsSomewhere B.Stands by.new) }
     {
@@ -100,7 +100,7 @@ impl<V: Word> HashMap<V> {
     fn list_by<B: Looks>(self, by: &mut B, items: &mut Vec<(u64, V)>, at: u32) -> Result<(), B::Err>
         requires { at < self.cells.capacity }
         ensures stays { B.Stays by.old by.new }
-        ensures fails { IfErr result (B.Fails true (end_of self) by.old) }
+        ensures fails { IfErr result (B.Fails true (end_of self) by.old by.new) }
         ensures lists { OnOk result (Shows B.Stands
             (λ values. ListsPlace V.found self at items.old.items items.new.items values values) by.new) }
         ensures may { OnOk result (StandsSomewhere B.Stands by.new) }
@@ -120,7 +120,7 @@ impl<V: Word> HashMap<V> {
     pub(crate) fn stands_by<B: Looks>(self, by: &mut B, at: u32) -> Result<Option<u64>, B::Err>
         requires { at < self.cells.capacity }
         ensures stays { B.Stays by.old by.new }
-        ensures fails { IfErr result (B.Fails false (end_of self) by.old) }
+        ensures fails { IfErr result (B.Fails false (end_of self) by.old by.new) }
         ensures stands { IfOk result (λ key. Shows B.Stands (λ values. Stands self at key values values) by.new) }
         ensures may { OnOk result (StandsSomewhere B.Stands by.new) }
     {

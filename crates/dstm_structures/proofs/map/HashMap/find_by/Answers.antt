@@ -54,7 +54,7 @@ returns-in_err-slot-clause-fails g c =
     let answer = c.from_residual-in_err-slot.ensures in
     let is : c.from_residual-in_err-slot.result ≡ Err c.in_err-slot.field-0.0 = search rules in
     rw is
-    (g.met.B.Looks.fails_later false (end_of c.args.self) c.args.by.now c.loop-passed.by _ c.loop-passed.invariant.0
+    (g.met.B.Looks.fails_later false (end_of c.args.self) c.args.by.now c.loop-passed.by _ _ c.loop-passed.invariant.0
     (c.in_err-slot.ensures.fails (end_of c.args.self)
     (omega (arith, c.slot_at-in-loop-passed.ensures, c.behind-at.ensures.within))))
 

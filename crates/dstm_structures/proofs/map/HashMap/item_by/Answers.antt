@@ -21,7 +21,7 @@ returns-in_err-value-clause-fails g c =
     c.in_ok-found.ensures.within in
     let answer = c.from_residual-in_err-value.ensures in
     let is : c.from_residual-in_err-value.result ≡ Err c.in_err-value.field-0.0 = search rules in
-    rw is (g.met.B.Looks.fails_later false (end_of c.args.self) c.args.by.now c.find_by.new.by _ c.in_ok-found.ensures.stays
+    rw is (g.met.B.Looks.fails_later false (end_of c.args.self) c.args.by.now c.find_by.new.by _ _ c.in_ok-found.ensures.stays
     (c.in_err-value.ensures.fails (end_of c.args.self) (omega (arith, c.value_at.ensures, within))))
 
 pub returns-clause-stays : goal.returns-clause-stays

@@ -20,7 +20,7 @@ pub returns-in_err-list_by-clause-fails : goal.returns-in_err-list_by-clause-fai
 returns-in_err-list_by-clause-fails g c =
     let answer = c.from_residual.ensures in
     let is : c.from_residual.result ≡ Err c.in_err-list_by.field-0.0 = search rules in
-    rw is (g.met.B.Looks.fails_later true (end_of c.args.self) c.args.by.now c.loop-at.by _ c.loop-at.invariant.0
+    rw is (g.met.B.Looks.fails_later true (end_of c.args.self) c.args.by.now c.loop-at.by _ _ c.loop-at.invariant.0
     c.in_err-list_by.ensures.fails)
 
 pub loop-at-preserved : goal.loop-at-preserved

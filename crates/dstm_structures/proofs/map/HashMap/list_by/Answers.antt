@@ -8,7 +8,7 @@ pub returns-in_err-found-clause-fails : goal.returns-in_err-found-clause-fails
 returns-in_err-found-clause-fails g c =
     let answer = c.from_residual.ensures in
     let is : c.from_residual.result ≡ Err c.in_err-found.field-0.0 = search rules in
-    rw is (g.met.B.Looks.fails_listing (end_of c.args.self) c.args.by.now _ c.in_err-found.ensures.fails)
+    rw is (g.met.B.Looks.fails_listing (end_of c.args.self) c.args.by.now _ _ c.in_err-found.ensures.fails)
 
 pub returns-in_default-clause-lists : goal.returns-in_default-clause-lists
 returns-in_default-clause-lists g c map values at =
@@ -23,6 +23,6 @@ pub returns-in_err-held-clause-fails : goal.returns-in_err-held-clause-fails
 returns-in_err-held-clause-fails g c =
     let answer = c.from_residual-in_err-held.ensures in
     let is : c.from_residual-in_err-held.result ≡ Err c.in_err-held.field-0.0 = search rules in
-    rw is (g.met.B.Looks.fails_listing (end_of c.args.self) c.args.by.now _
-    (g.met.B.Looks.fails_later false (end_of c.args.self) c.args.by.now c.stands_by.new.by _ c.in_ok-found.ensures.stays
+    rw is (g.met.B.Looks.fails_listing (end_of c.args.self) c.args.by.now _ _
+    (g.met.B.Looks.fails_later false (end_of c.args.self) c.args.by.now c.stands_by.new.by _ _ c.in_ok-found.ensures.stays
     (c.in_err-held.ensures.fails (end_of c.args.self) (omega (arith, c.value_at.ensures, c.requires)))))

@@ -24,7 +24,7 @@ pub returns-in_err-place-clause-fails : goal.returns-in_err-place-clause-fails
 returns-in_err-place-clause-fails g c =
     let answer = c.from_residual-in_err-place.ensures in
     let is : c.from_residual-in_err-place.result ≡ Err c.in_err-place.field-0.0 = search rules in
-    rw is (g.met.B.Looks.fails_later false (end_of c.args.self) c.args.by.now c.look.new.self _ c.in_ok-slot.ensures.stays
+    rw is (g.met.B.Looks.fails_later false (end_of c.args.self) c.args.by.now c.look.new.self _ _ c.in_ok-slot.ensures.stays
     c.in_err-place.ensures.fails)
 
 pub returns-then-is_at-clause-stays : goal.returns-then-is_at-clause-stays
