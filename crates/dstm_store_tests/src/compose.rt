@@ -14,29 +14,58 @@ use std::test::Fail;
 // ---- jobs
 
 // How a job is run: with its branches, or its operations one after the other, letting reads go.
-#[derive(Clone, Copy, PartialEq, Eq)]
+#[derive(Clone, Copy)]
 enum Style {
     Branches,
     Releasing,
 }
 
-// Runs a job: its replies where it is not blocked, what was counted, and the values that it leaves.
+// The replies of a job where it is not blocked, what was counted, and the values that it leaves.
+type Ran = (Option<Replies>, Counts, Vec<Val>);
+
+// Runs a job.
 fn run_job(
     alloc: Global,
     layout: &Layout,
     values: Vec<Val>,
     style: Style,
     list: &[Op],
-) -> Result<(Option<Replies>, Counts, Vec<Val>), AllocError>
+) -> Result<Ran, AllocError>
     requires valid { IsValid layout.now }
     requires lawful { IsLawful layout.now values.items }
     ensures { IfOk result (λ done. IsLawful layout.now done.2.items) }
 {
-    if style == Style::Branches {
-        let mut body = CompBody::make(layout, &ops_of(layout, list));
-        let (counts, after) = run_body::<StoreLaw, CompBody>(alloc, values, &mut body)?;
-        return Ok((replies_of(body.outcome()), counts, after));
+    match style {
+        Style::Branches => run_branches(alloc, layout, values, list),
+        Style::Releasing => run_releasing(alloc, layout, values, list),
     }
+}
+
+fn run_branches(
+    alloc: Global,
+    layout: &Layout,
+    values: Vec<Val>,
+    list: &[Op],
+) -> Result<Ran, AllocError>
+    requires valid { IsValid layout.now }
+    requires lawful { IsLawful layout.now values.items }
+    ensures { IfOk result (λ done. IsLawful layout.now done.2.items) }
+{
+    let mut body = CompBody::make(layout, &ops_of(layout, list));
+    let (counts, after) = run_body::<StoreLaw, CompBody>(alloc, values, &mut body)?;
+    Ok((replies_of(body.outcome()), counts, after))
+}
+
+fn run_releasing(
+    alloc: Global,
+    layout: &Layout,
+    values: Vec<Val>,
+    list: &[Op],
+) -> Result<Ran, AllocError>
+    requires valid { IsValid layout.now }
+    requires lawful { IsLawful layout.now values.items }
+    ensures { IfOk result (λ done. IsLawful layout.now done.2.items) }
+{
     let mut body = LooseJobBody::make(layout, &plain_of(layout, list));
     let (counts, after) = run_loose(alloc, values, &mut body)?;
     Ok((Some(body.replies()), counts, after))
@@ -123,6 +152,45 @@ fn pick_job(seed: u32) -> [Op; 8] {
     ]
 }
 
+// The values that a job leaves, whether it has the replies that the plain store gives, and whether it is blocked there.
+fn run_as(
+    alloc: Global,
+    layout: &Layout,
+    values: Vec<Val>,
+    style: Style,
+    job: &[Op],
+    store: &mut PlainStore,
+) -> Result<(Vec<Val>, bool, bool), AllocError>
+    requires valid { IsValid layout.now }
+    requires lawful { IsLawful layout.now values.items }
+    requires layout { store.old.layout ≡ layout.now }
+    ensures lawful { IfOk result (λ done. IsLawful layout.now done.0.items) }
+    ensures layout { store.new.layout ≡ layout.now }
+{
+    let ops = match style {
+        Style::Branches => ops_of(layout, job),
+        Style::Releasing => plain_of(layout, job),
+    };
+    let wanted = store.apply_job(&ops)?;
+    let (replies, _counts, after) = run_job(alloc, layout, values, style, job)?;
+    let is_so = answers(&replies, wanted.as_ref().map(|replies| replies.as_slice()));
+    Ok((after, is_so, wanted.is_none()))
+}
+
+// Tells whether values hold what the plain store does.
+fn holds(
+    alloc: Global,
+    layout: &Layout,
+    values: &[Val],
+    store: &PlainStore,
+) -> Result<bool, AllocError>
+    requires valid { IsValid layout.now }
+    requires lawful { IsLawful layout.now values.now }
+{
+    let state = read_state(alloc, layout, values)?;
+    Ok(same_state(&state, &store.state(alloc)?))
+}
+
 // How many of these jobs end as the plain store says, and leave what it leaves: each with its branches, and then its
 // operations one after the other, letting reads go. How many of them were blocked.
 fn run_beside(alloc: Global, layout: &Layout, jobs: u32) -> Result<(u32, u32), AllocError>
@@ -136,21 +204,18 @@ fn run_beside(alloc: Global, layout: &Layout, jobs: u32) -> Result<(u32, u32), A
     for _job in 0..jobs {
         seed = next_of(seed);
         let job = pick_job(seed);
-        let (chosen, _counts, after) = run_job(alloc, layout, values, Style::Branches, &job)?;
-        let wanted = store.apply_job(&ops_of(layout, &job))?;
-        if wanted.is_none() {
-            blocked = blocked.saturating_add(1);
-        }
-        let (all, _loose, left) = run_job(alloc, layout, after, Style::Releasing, &job)?;
-        let plain = store.apply_job(&plain_of(layout, &job))?;
-        let state = read_state(alloc, layout, &left)?;
-        let is_held = same_state(&state, &store.state(alloc)?);
-        if answers(&chosen, wanted.as_ref().map(|replies| replies.as_slice()))
-            && answers(&all, plain.as_ref().map(|replies| replies.as_slice()))
-            && is_held
-        {
-            same = same.saturating_add(1);
-        }
+        let (after, is_chosen, is_blocked) = run_as(
+            alloc,
+            layout,
+            values,
+            Style::Branches,
+            &job,
+            &mut store,
+        )?;
+        let (left, is_all, _) = run_as(alloc, layout, after, Style::Releasing, &job, &mut store)?;
+        let is_held = holds(alloc, layout, &left, &store)?;
+        blocked = blocked.saturating_add(u32::from(is_blocked));
+        same = same.saturating_add(u32::from(is_chosen && is_all && is_held));
         values = left;
     }
     Ok((same, blocked))

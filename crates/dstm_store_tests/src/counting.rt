@@ -1,11 +1,9 @@
 ghost use Rattle.std.specs.Prelude.{◌≡◌, ◌<◌, List, length, IfOk};
 ghost use Rattle.dstm_model.specs.declared.value.Val.{Val};
 ghost use Rattle.dstm_model.specs.Layout.{IsValid};
-ghost use Rattle.dstm_model.specs.Objects.{objects_of, IsBank};
+ghost use Rattle.dstm_model.specs.Objects.{objects_of};
 ghost use Rattle.dstm_mem.specs.Memory.{with_set};
 ghost use Rattle.dstm_mem.specs.Operations.{IsFresh, IsReady};
-ghost use Rattle.dstm_list.specs.List.{IsList};
-ghost use Rattle.dstm_tree.specs.Objects.{IsTree};
 ghost use Rattle.dstm_store.specs.Whole.{StandsFor};
 
 use dstm_mem::{Body, FlatMem, Mem, Never, Release};
@@ -14,7 +12,7 @@ use dstm_store::opening;
 use std::alloc::{AllocError, Global};
 
 /// How many calls open an object, for reading and for writing.
-#[derive(Clone, Copy, PartialEq, Eq)]
+#[derive(Clone, Copy)]
 pub(crate) struct Opens {
     pub(crate) reads: u32,
     pub(crate) writes: u32,
@@ -35,7 +33,7 @@ pub(crate) struct Counting {
 }
 
 /// How many calls open an object, and how many objects are reads that are kept.
-#[derive(Clone, Copy, PartialEq, Eq)]
+#[derive(Clone, Copy)]
 pub(crate) struct Counts {
     pub(crate) opens: u32,
     pub(crate) kept: u32,
@@ -71,11 +69,7 @@ impl Counting {
 /// A memory of the opening values.
 pub(crate) fn opened(alloc: Global, layout: &Layout) -> Result<Counting, AllocError>
     requires { IsValid layout.now }
-    ensures store { IfOk result (IsReady ⟦<Counting as Mem>⟧ (objects_of layout.now) (StandsFor layout.now)) }
-    ensures bank { IfOk result (IsReady ⟦<Counting as Mem>⟧ (objects_of layout.now) (IsBank layout.now)) }
-    ensures list { IfOk result (IsReady ⟦<Counting as Mem>⟧ (objects_of layout.now) (IsList layout.now)) }
-    ensures tree { 0 < layout.now.tree →
-        IfOk result (IsReady ⟦<Counting as Mem>⟧ (objects_of layout.now) (IsTree layout.now)) }
+    ensures { IfOk result (IsReady ⟦<Counting as Mem>⟧ (objects_of layout.now) (StandsFor layout.now)) }
 {
     let values = opening(alloc, layout)?;
     let mem = Counting::of(alloc, values)?;

@@ -11,6 +11,8 @@ mod counting;
 #[cfg(test)]
 mod list;
 #[cfg(test)]
+mod maps;
+#[cfg(test)]
 mod mem;
 #[cfg(test)]
 mod model;

@@ -1,0 +1,56 @@
+ghost use Rattle.dstm_model.specs.Layout.{IsValid};
+
+use crate::counting::opened;
+use crate::store::count;
+use dstm_model::{Layout, Op, Reply};
+use std::alloc::{AllocError, Global};
+use std::collections::BTreeMap;
+
+// What a map with room for so many keys answers.
+fn expected(map: &mut BTreeMap<u32, u64>, room: usize, op: Op) -> Result<Reply, AllocError> {
+    let (key, value, replaces) = match op {
+        Op::Insert { key, .. } => (key, 0, false),
+        Op::Put { key, value } => (key, value, true),
+        Op::Remove { key, .. } => return Ok(yes_or_no(map.remove(&key).is_some())),
+        Op::Member { key, .. } => return Ok(yes_or_no(map.contains_key(&key))),
+        Op::Get { key } => return Ok(map.get(&key).copied().map_or(Reply::Absent, Reply::Number)),
+        _ => return Ok(Reply::Never),
+    };
+    if map.contains_key(&key) {
+        if replaces {
+            map.insert(key, value).map_err(|_| AllocError)?;
+        }
+        return Ok(Reply::No);
+    }
+    if map.len() == room {
+        return Ok(Reply::Full);
+    }
+    map.insert(key, value).map_err(|_| AllocError)?;
+    Ok(Reply::Yes)
+}
+
+fn yes_or_no(yes: bool) -> Reply {
+    if yes { Reply::Yes } else { Reply::No }
+}
+
+/// Tells whether these operations on a list or a tree with room for so many keys are answered as by a map, one after the
+/// other.
+pub(crate) fn answer_as_a_map(
+    alloc: Global,
+    layout: &Layout,
+    room: usize,
+    ops: &[Op],
+) -> Result<bool, AllocError>
+    requires { IsValid layout.now }
+{
+    let mut mem = opened(alloc, layout)?;
+    let mut map = BTreeMap::new(alloc);
+    for op in ops {
+        let wanted = expected(&mut map, room, *op)?;
+        match count(&mut mem, layout, op) {
+            Some((reply, _)) if reply == wanted => {}
+            _ => return Ok(false),
+        }
+    }
+    Ok(true)
+}
