@@ -3,17 +3,17 @@ use Rattle.std.proofs.Common.{◌≡◌, ◌∙◌, ℕ, ◌+◌, ◌*◌, ◌/�
 use Rattle.dstm_model.specs.declared.value.Val.{Val}
 use Rattle.dstm_model.specs.Map.{value_at}
 use Rattle.dstm_structures.specs.Maps.{key_of}
-use Rattle.dstm_structures.specs.Orders.{Below, Has, HoldsIn, KeepsButForks, Trie, fork, left_in, level_in, link_in, link_to, low_of, right_in, root_in, tip, words_of}
-use Rattle.dstm_structures.specs.Tips.{AddsKey, AddsTip, DropsKey, DropsTip, FreesFork, Gains, KeepsButOrder, LeavesNone, LeavesRest, LooksFork, Loses, SetsRoot, SetsSide, TellsFork, Uses, key_told, words_at}
+use Rattle.dstm_structures.specs.Orders.{Below, Has, HoldsIn, KeepsButForks, Trie, fork, level_in, link_in, link_to, low_of, root_in, tip, words_of}
+use Rattle.dstm_structures.specs.Tips.{AddsKey, AddsTip, DropsKey, DropsTip, FreesFork, Gains, KeepsButFork, KeepsButOrder, LeavesNone, LeavesRest, LooksFork, Loses, SetsRoot, SetsSide, TellsFork, key_told, words_at}
 use Rattle.dstm_structures.specs.declared.cells.Rows.{Rows}
 use Rattle.dstm_structures.specs.declared.order.Fork.{Fork}
 use Rattle.dstm_structures.specs.declared.order.Link.TheVariants.{Nothing, Tip}
 use Rattle.dstm_structures.proofs.Doing.{Reads}
 use Rattle.dstm_structures.proofs.Forks.{to_fork}
 use Rattle.dstm_structures.proofs.Losing.{loses_all_left, loses_all_right, loses_left, loses_right, loses_tip}
-use Rattle.dstm_structures.proofs.Ordering.{IsFork, fork-is, led}
+use Rattle.dstm_structures.proofs.Ordering.{IsFork, fork-is, fork-not-below, led}
 use Rattle.dstm_structures.proofs.Orders.{below-key, leads, tip-not-fork, tip-same}
-use Rattle.dstm_structures.proofs.Tipping.{all_stay, both_keep, keys_stay, keys_stay_one, leads_nowhere, one_fork, words_stay}
+use Rattle.dstm_structures.proofs.Tipping.{all_stay, both_keep, keys_stay, keys_stay_one, leads_nowhere, one_fork, tells_on, words_stay}
 use Rattle.dstm_structures.proofs.Tries.{half_even, half_odd, has_within, holds_on, linked, not_above}
 
 -- the link to the other side
@@ -79,16 +79,9 @@ module _ (cells : Rows) where
       -- whose level is not below the one that the link stands below
       pub drops_high : (now : ℕ) → under ≤ held.level → DropsTip cells key at link under now before mid
       drops_high now high = record {
-        loses = λ bits t there holds below has. absurd (never bits t (parts t there holds) below);
+        loses = λ bits t there holds below has. absurd (fork-not-below cells under bits (parts t there holds) below high);
         others = all_stay cells before mid looks.same;
       }
-        where
-          never : (bits : ℕ) (t : Trie) → IsFork cells from held.level held.prefix held.left held.right before t →
-              Below under bits t → ⊥
-          never bits t f below =
-              let b : Below under bits (fork from held.level held.prefix f.lesser f.greater) =
-              subst (λ (x : Trie). Below under bits x) f.is below in
-              omega (arith, b.0, high)
 
       -- whose prefix the key does not have
       pub drops_apart : (now part : ℕ) → part ≡ key / 2 ^ held.level → (part / 2 ≡ held.prefix → ⊥) →
@@ -146,15 +139,36 @@ module _ (cells : Rows) where
 
         still : words_at cells near from ≡ words_at cells before from →
             TellsFork from held.level held.prefix held.left held.right (words_at cells near)
-        still same = record {
-          level_is = ap (λ (w : ℕ × ℕ). level_in w.1) same ∙ looks.tells.level_is;
-          prefix_is = ap (λ (w : ℕ × ℕ). w.0) same ∙ looks.tells.prefix_is;
-          left_is = ap (λ (w : ℕ × ℕ). left_in w.1) same ∙ looks.tells.left_is;
-          right_is = ap (λ (w : ℕ × ℕ). right_in w.1) same ∙ looks.tells.right_is;
+        still same = tells_on same looks.tells
+
+        -- what a fork of these sides loses, the trie below the link loses
+        drops_in : (left_link : ℕ) →
+            ((bits : ℕ) (l r : Trie) → HoldsIn first n before (fork from held.level held.prefix l r) →
+            Below under bits (fork from held.level held.prefix l r) → held.left ≡ link_to l → held.right ≡ link_to r →
+            Has at key (fork from held.level held.prefix l r) →
+            Loses cells key at under bits left_link (fork from held.level held.prefix l r) before after) →
+            KeepsButFork cells from near after → DropsTip cells key at link under left_link before after
+        drops_in left_link in_fork others = record {
+          loses = λ bits t there holds below has. all bits t (parts t there holds) holds below has;
+          others = both_keep cells before near after started.others (one_fork cells from near after here others);
         }
+          where
+            all : (bits : ℕ) (t : Trie) → IsFork cells from held.level held.prefix held.left held.right before t →
+                HoldsIn first n before t → Below under bits t → Has at key t →
+                Loses cells key at under bits left_link t before after
+            all bits t f holds below has =
+                subst (λ (x : Trie). Loses cells key at under bits left_link x before after) (sym f.is)
+                (in_fork bits f.lesser f.greater (subst (HoldsIn first n before) f.is holds)
+                (subst (Below under bits) f.is below) f.left_is f.right_is (subst (Has at key) f.is has))
 
         -- and no other key is there
         module _ (none : now ≡ 0) (frees : FreesFork cells from near after) where
+          -- which then has no tip on its side
+          emptied : {t : Trie} {side_bits : ℕ} →
+              LeavesNone cells key at now t ⊎ LeavesRest cells key held.level side_bits now t near → LeavesNone cells key at now t
+          emptied (inl g) = g
+          emptied (inr g) = absurd (linked n (key_told cells near) (words_at cells near) g.rest (sym g.is ∙ none))
+
           all_gone : (bits : ℕ) (l r : Trie) → HoldsIn first n before (fork from held.level held.prefix l r) →
               Below under bits (fork from held.level held.prefix l r) → held.left ≡ link_to l → held.right ≡ link_to r →
               Has at key (fork from held.level held.prefix l r) →
@@ -169,59 +183,34 @@ module _ (cells : Rows) where
               by false even d =
                   let near_has : Has at key l = even_side l r bits b even has in
                   let g = d.loses (2 * held.prefix) l left holds.5 b.2 near_has in
-                  let bits_are = below-key held.level (2 * held.prefix) l b.2 at key near_has in
                   subst (λ (x : ℕ). Loses cells key at under bits x (fork from held.level held.prefix l r) before after)
                   (sym right)
-                  (gone_left g.left bits_are g.stays)
-                where
-                  gone_left : LeavesNone cells key at now l ⊎ LeavesRest cells key held.level (2 * held.prefix) now l near →
-                      key / 2 ^ held.level ≡ 2 * held.prefix →
-                      ((c : ℕ) → (Uses c l → ⊥) → words_at cells near c ≡ words_at cells before c) →
-                      Loses cells key at under bits (link_to r) (fork from held.level held.prefix l r) before after
-                  gone_left (inl g) even_bits stays =
-                      loses_all_left cells key at under bits (2 * from + 2) from held.level held.prefix now l r before near after
-                      holds b refl
-                      (keys_stay cells before near d.others) (keys_stay_one cells from near after frees.others)
-                      (words_stay cells from near after frees.others) g even_bits stays
-                  gone_left (inr g) even_bits stays =
-                      absurd (linked n (key_told cells near) (words_at cells near) g.rest (sym g.is ∙ none))
+                  (loses_all_left cells key at under bits (2 * from + 2) from held.level held.prefix now l r before near
+                  after holds b refl (keys_stay cells before near d.others) (keys_stay_one cells from near after frees.others)
+                  (words_stay cells from near after frees.others) (emptied g.left)
+                  (below-key held.level (2 * held.prefix) l b.2 at key near_has) g.stays)
               by true odd d =
                   let near_has : Has at key r = odd_side l r bits b odd has in
                   let g = d.loses (2 * held.prefix + 1) r right holds.6 b.3 near_has in
-                  let bits_are = below-key held.level (2 * held.prefix + 1) r b.3 at key near_has in
                   subst (λ (x : ℕ). Loses cells key at under bits x (fork from held.level held.prefix l r) before after)
                   (sym left)
-                  (gone_right g.left bits_are g.stays)
-                where
-                  gone_right : LeavesNone cells key at now r ⊎ LeavesRest cells key held.level (2 * held.prefix + 1) now r near →
-                      key / 2 ^ held.level ≡ 2 * held.prefix + 1 →
-                      ((c : ℕ) → (Uses c r → ⊥) → words_at cells near c ≡ words_at cells before c) →
-                      Loses cells key at under bits (link_to l) (fork from held.level held.prefix l r) before after
-                  gone_right (inl g) odd_bits stays =
-                      loses_all_right cells key at under bits (2 * from + 2) from held.level held.prefix now l r before near after
-                      holds b refl
-                      (keys_stay cells before near d.others) (keys_stay_one cells from near after frees.others)
-                      (words_stay cells from near after frees.others) g odd_bits stays
-                  gone_right (inr g) odd_bits stays =
-                      absurd (linked n (key_told cells near) (words_at cells near) g.rest (sym g.is ∙ none))
+                  (loses_all_right cells key at under bits (2 * from + 2) from held.level held.prefix now l r before near
+                  after holds b refl (keys_stay cells before near d.others) (keys_stay_one cells from near after frees.others)
+                  (words_stay cells from near after frees.others) (emptied g.left)
+                  (below-key held.level (2 * held.prefix + 1) r b.3 at key near_has) g.stays)
 
           pub drops_fork : DropsTip cells key at link under (cond greater held.left held.right) before after
-          drops_fork = record {
-            loses = λ bits t there holds below has. all bits t (parts t there holds) holds below has;
-            others = both_keep cells before near after started.others (one_fork cells from near after here frees.others);
-          }
-            where
-              all : (bits : ℕ) (t : Trie) → IsFork cells from held.level held.prefix held.left held.right before t →
-                  HoldsIn first n before t → Below under bits t → Has at key t →
-                  Loses cells key at under bits (cond greater held.left held.right) t before after
-              all bits t f holds below has =
-                  subst (λ (x : Trie). Loses cells key at under bits (cond greater held.left held.right) x before after)
-                  (sym f.is)
-                  (all_gone bits f.lesser f.greater (subst (HoldsIn first n before) f.is holds)
-                  (subst (Below under bits) f.is below) f.left_is f.right_is (subst (Has at key) f.is has))
+          drops_fork = drops_in (cond greater held.left held.right) all_gone frees.others
 
         -- and others are
         module _ (some : now ≡ 0 → ⊥) (sets : SetsSide cells from held greater now near after) where
+          -- so its side has some
+          left_on : {t : Trie} {side_bits : ℕ} →
+              LeavesNone cells key at now t ⊎ LeavesRest cells key held.level side_bits now t near →
+              LeavesRest cells key held.level side_bits now t near
+          left_on (inl g) = absurd (some g.is)
+          left_on (inr g) = g
+
           some_stay : (bits : ℕ) (l r : Trie) → HoldsIn first n before (fork from held.level held.prefix l r) →
               Below under bits (fork from held.level held.prefix l r) → held.left ≡ link_to l → held.right ≡ link_to r →
               Has at key (fork from held.level held.prefix l r) →
@@ -235,59 +224,34 @@ module _ (cells : Rows) where
               by false even d s =
                   let near_has : Has at key l = even_side l r bits b even has in
                   let g = d.loses (2 * held.prefix) l left holds.5 b.2 near_has in
-                  stays_left g.left (below-key held.level (2 * held.prefix) l b.2 at key near_has) g.stays
-                where
-                  stays_left : LeavesNone cells key at now l ⊎ LeavesRest cells key held.level (2 * held.prefix) now l near →
-                      key / 2 ^ held.level ≡ 2 * held.prefix →
-                      ((c : ℕ) → (Uses c l → ⊥) → words_at cells near c ≡ words_at cells before c) →
-                      Loses cells key at under bits (2 * from + 2) (fork from held.level held.prefix l r) before after
-                  stays_left (inl g) even_bits stays = absurd (some g.is)
-                  stays_left (inr g) even_bits stays =
-                      let told = s.tells (still (stays from (λ used. not_above n (key_told cells before) (words_at cells before)
-                      held.level (2 * held.prefix) l b.2 holds.5 from high used))) in
-                      loses_left cells key at under bits (2 * from + 2) from held.level held.prefix now l r before near after
-                      holds b refl (keys_stay cells before near d.others) (keys_stay_one cells from near after s.others)
-                      (words_stay cells from near after s.others) even_bits g stays (record {
-                        level_is = told.level_is;
-                        prefix_is = told.prefix_is;
-                        left_is = told.left_is;
-                        right_is = told.right_is ∙ right;
-                      })
+                  let told = s.tells (still (g.stays from (λ used. not_above n (key_told cells before) (words_at cells before)
+                  held.level (2 * held.prefix) l b.2 holds.5 from high used))) in
+                  loses_left cells key at under bits (2 * from + 2) from held.level held.prefix now l r before near after
+                  holds b refl (keys_stay cells before near d.others) (keys_stay_one cells from near after s.others)
+                  (words_stay cells from near after s.others) (below-key held.level (2 * held.prefix) l b.2 at key near_has)
+                  (left_on g.left) g.stays (record {
+                    level_is = told.level_is;
+                    prefix_is = told.prefix_is;
+                    left_is = told.left_is;
+                    right_is = told.right_is ∙ right;
+                  })
               by true odd d s =
                   let near_has : Has at key r = odd_side l r bits b odd has in
                   let g = d.loses (2 * held.prefix + 1) r right holds.6 b.3 near_has in
-                  stays_right g.left (below-key held.level (2 * held.prefix + 1) r b.3 at key near_has) g.stays
-                where
-                  stays_right : LeavesNone cells key at now r ⊎ LeavesRest cells key held.level (2 * held.prefix + 1) now r near →
-                      key / 2 ^ held.level ≡ 2 * held.prefix + 1 →
-                      ((c : ℕ) → (Uses c r → ⊥) → words_at cells near c ≡ words_at cells before c) →
-                      Loses cells key at under bits (2 * from + 2) (fork from held.level held.prefix l r) before after
-                  stays_right (inl g) odd_bits stays = absurd (some g.is)
-                  stays_right (inr g) odd_bits stays =
-                      let told = s.tells (still (stays from (λ used. not_above n (key_told cells before) (words_at cells before)
-                      held.level (2 * held.prefix + 1) r b.3 holds.6 from high used))) in
-                      loses_right cells key at under bits (2 * from + 2) from held.level held.prefix now l r before near after
-                      holds b refl (keys_stay cells before near d.others) (keys_stay_one cells from near after s.others)
-                      (words_stay cells from near after s.others) odd_bits g stays (record {
-                        level_is = told.level_is;
-                        prefix_is = told.prefix_is;
-                        left_is = told.left_is ∙ left;
-                        right_is = told.right_is;
-                      })
+                  let told = s.tells (still (g.stays from (λ used. not_above n (key_told cells before) (words_at cells before)
+                  held.level (2 * held.prefix + 1) r b.3 holds.6 from high used))) in
+                  loses_right cells key at under bits (2 * from + 2) from held.level held.prefix now l r before near after
+                  holds b refl (keys_stay cells before near d.others) (keys_stay_one cells from near after s.others)
+                  (words_stay cells from near after s.others) (below-key held.level (2 * held.prefix + 1) r b.3 at key near_has)
+                  (left_on g.left) g.stays (record {
+                    level_is = told.level_is;
+                    prefix_is = told.prefix_is;
+                    left_is = told.left_is ∙ left;
+                    right_is = told.right_is;
+                  })
 
           pub drops_side : DropsTip cells key at link under (2 * from + 2) before after
-          drops_side = record {
-            loses = λ bits t there holds below has. all bits t (parts t there holds) holds below has;
-            others = both_keep cells before near after started.others (one_fork cells from near after here sets.others);
-          }
-            where
-              all : (bits : ℕ) (t : Trie) → IsFork cells from held.level held.prefix held.left held.right before t →
-                  HoldsIn first n before t → Below under bits t → Has at key t →
-                  Loses cells key at under bits (2 * from + 2) t before after
-              all bits t f holds below has =
-                  subst (λ (x : Trie). Loses cells key at under bits (2 * from + 2) x before after) (sym f.is)
-                  (some_stay bits f.lesser f.greater (subst (HoldsIn first n before) f.is holds)
-                  (subst (Below under bits) f.is below) f.left_is f.right_is (subst (Has at key) f.is has))
+          drops_side = drops_in (2 * from + 2) some_stay sets.others
 
   -- ---- the whole order
 

@@ -8,6 +8,43 @@ use Rattle.dstm_structures.specs.declared.cells.Rows.{Rows}
 use Rattle.dstm_structures.proofs.Powers.{even_less, half, same_higher}
 use Rattle.dstm_structures.proofs.Tries.{far_held, has_within, holds_on, near_held, not_free, prefix_at}
 
+-- what there was, in other words, or what is new
+or_new : {A B C : Type 0} → A ⊎ C → (A → B) → B ⊎ C
+or_new (inl had) say = inl (say had)
+or_new (inr new) say = inr new
+
+-- a fork with these sides has got the tip
+gains_by : {cells : Rows} {key at cell under bits number p j q low_link high_link : ℕ} {t : Trie} {before after : List Val}
+    (low high : Trie) → TellsFork p j q low_link high_link (words_at cells after) → number ≡ 2 * p + 2 → p < cells.capacity →
+    low_link ≡ link_to low → high_link ≡ link_to high →
+    Holds cells.capacity (key_told cells after) (words_at cells after) low →
+    Holds cells.capacity (key_told cells after) (words_at cells after) high → Below under bits (fork p j q low high) →
+    Has at key (fork p j q low high) → ((a k : ℕ) → Has a k t → Has a k (fork p j q low high)) →
+    ((a k : ℕ) → Has a k (fork p j q low high) → Has a k t ⊎ ((a ≡ at) × (k ≡ key))) →
+    ((c : ℕ) → Uses c (fork p j q low high) → Uses c t ⊎ (c ≡ cell)) →
+    ((c : ℕ) → (Uses c t → ⊥) → (c ≡ cell → ⊥) → words_at cells after c ≡ words_at cells before c) →
+    Gains cells key at cell under bits number t before after
+gains_by {p = p} {j = j} {q = q} low high tells is inside low_is high_is near far below there kept no_more uses stays =
+    record {
+      grown = fork p j q low high;
+      is = is;
+      held = (
+        inside,
+        tells.level_is,
+        tells.prefix_is,
+        tells.left_is ∙ low_is,
+        tells.right_is ∙ high_is,
+        near,
+        far,
+      );
+      below = below;
+      there = there;
+      kept = kept;
+      no_more = no_more;
+      uses = uses;
+      stays = stays;
+    }
+
 module _ (cells : Rows) (key at cell under bits number p j q link : ℕ) (l r : Trie) (before mid after : List Val)
     (held : HoldsIn cells.first cells.capacity before (fork p j q l r)) (b : Below under bits (fork p j q l r))
     (free : (words_at cells before cell).1 ≡ 0) (is : number ≡ 2 * p + 2)
@@ -25,17 +62,10 @@ module _ (cells : Rows) (key at cell under bits number p j q link : ℕ) (l r : 
   -- on its left side
   pub gains_left : Gains cells key at cell j (2 * q) link l before mid →
       TellsFork p j q link (link_to r) (words_at cells after) → Gains cells key at cell under bits number t before after
-  gains_left g tells = record {
-    grown = fork p j q g.grown r;
-    is = is;
-    held = (held.0, tells.level_is, tells.prefix_is, tells.left_is ∙ g.is, tells.right_is, near, far);
-    below = (b.0, b.1, g.below, b.3);
-    there = inl g.there;
-    kept = λ a k has. kept a k has;
-    no_more = λ a k has. no_more a k has;
-    uses = λ c used. uses c used;
-    stays = λ c off away. others c (λ e. off (inl e)) ∙ g.stays c (λ used. off (inr (inl used))) away;
-  }
+  gains_left g tells =
+      gains_by g.grown r tells is held.0 g.is refl near far (b.0, b.1, g.below, b.3) (inl g.there) (λ a k has. kept a k has)
+      (λ a k has. no_more a k has) (λ c used. uses c used)
+      (λ c off away. others c (λ e. off (inl e)) ∙ g.stays c (λ used. off (inr (inl used))) away)
     where
       apart : 2 * q ≡ 2 * q + 1 → ⊥
       apart e = omega (arith, e)
@@ -57,36 +87,21 @@ module _ (cells : Rows) (key at cell under bits number p j q link : ℕ) (l r : 
       kept a k (inr has) = inr has
 
       no_more : (a k : ℕ) → Has a k (fork p j q g.grown r) → Has a k t ⊎ ((a ≡ at) × (k ≡ key))
-      no_more a k (inl has) = by (g.no_more a k has)
-        where
-          by : Has a k l ⊎ ((a ≡ at) × (k ≡ key)) → Has a k t ⊎ ((a ≡ at) × (k ≡ key))
-          by (inl had) = inl (inl had)
-          by (inr new) = inr new
+      no_more a k (inl has) = or_new (g.no_more a k has) (λ had. inl had)
       no_more a k (inr has) = inl (inr has)
 
       uses : (c : ℕ) → Uses c (fork p j q g.grown r) → Uses c t ⊎ (c ≡ cell)
       uses c (inl e) = inl (inl e)
-      uses c (inr (inl used)) = by (g.uses c used)
-        where
-          by : Uses c l ⊎ (c ≡ cell) → Uses c t ⊎ (c ≡ cell)
-          by (inl had) = inl (inr (inl had))
-          by (inr new) = inr new
+      uses c (inr (inl used)) = or_new (g.uses c used) (λ had. inr (inl had))
       uses c (inr (inr used)) = inl (inr (inr used))
 
   -- on its right side
   pub gains_right : Gains cells key at cell j (2 * q + 1) link r before mid →
       TellsFork p j q (link_to l) link (words_at cells after) → Gains cells key at cell under bits number t before after
-  gains_right g tells = record {
-    grown = fork p j q l g.grown;
-    is = is;
-    held = (held.0, tells.level_is, tells.prefix_is, tells.left_is, tells.right_is ∙ g.is, far, near);
-    below = (b.0, b.1, b.2, g.below);
-    there = inr g.there;
-    kept = λ a k has. kept a k has;
-    no_more = λ a k has. no_more a k has;
-    uses = λ c used. uses c used;
-    stays = λ c off away. others c (λ e. off (inl e)) ∙ g.stays c (λ used. off (inr (inr used))) away;
-  }
+  gains_right g tells =
+      gains_by l g.grown tells is held.0 refl g.is far near (b.0, b.1, b.2, g.below) (inr g.there) (λ a k has. kept a k has)
+      (λ a k has. no_more a k has) (λ c used. uses c used)
+      (λ c off away. others c (λ e. off (inl e)) ∙ g.stays c (λ used. off (inr (inr used))) away)
     where
       apart : 2 * q + 1 ≡ 2 * q → ⊥
       apart e = omega (arith, e)
@@ -109,20 +124,12 @@ module _ (cells : Rows) (key at cell under bits number p j q link : ℕ) (l r : 
 
       no_more : (a k : ℕ) → Has a k (fork p j q l g.grown) → Has a k t ⊎ ((a ≡ at) × (k ≡ key))
       no_more a k (inl has) = inl (inl has)
-      no_more a k (inr has) = by (g.no_more a k has)
-        where
-          by : Has a k r ⊎ ((a ≡ at) × (k ≡ key)) → Has a k t ⊎ ((a ≡ at) × (k ≡ key))
-          by (inl had) = inl (inr had)
-          by (inr new) = inr new
+      no_more a k (inr has) = or_new (g.no_more a k has) (λ had. inr had)
 
       uses : (c : ℕ) → Uses c (fork p j q l g.grown) → Uses c t ⊎ (c ≡ cell)
       uses c (inl e) = inl (inl e)
       uses c (inr (inl used)) = inl (inr (inl used))
-      uses c (inr (inr used)) = by (g.uses c used)
-        where
-          by : Uses c r ⊎ (c ≡ cell) → Uses c t ⊎ (c ≡ cell)
-          by (inl had) = inl (inr (inr had))
-          by (inr new) = inr new
+      uses c (inr (inr used)) = or_new (g.uses c used) (λ had. inr (inr had))
 
 -- A new fork over a tip and a trie whose keys differ from it first at a level.
 module _ (cells : Rows) (key at cell under bits h ours theirs : ℕ) (t : Trie) (before after : List Val)
@@ -148,25 +155,9 @@ module _ (cells : Rows) (key at cell under bits h ours theirs : ℕ) (t : Trie) 
       Gains cells key at cell under bits (2 * cell + 2) t before after
   gains_before first tells =
       let parts = even_less ours theirs alike first in
-      record {
-        grown = fork cell h (ours / 2) (tip at key) t;
-        is = refl;
-        held = (
-          within,
-          tells.level_is,
-          tells.prefix_is,
-          tells.left_is,
-          tells.right_is,
-          (inside, same at inside ∙ told_key),
-          still,
-        );
-        below = (less, stands, ours_is ∙ parts.0, subst (λ (x : ℕ). Below h x t) parts.1 b);
-        there = inl (refl, refl);
-        kept = λ p k has. inr has;
-        no_more = λ p k has. no_more p k has;
-        uses = λ c used. uses c used;
-        stays = λ c off away. others c away;
-      }
+      gains_by (tip at key) t tells refl within refl refl (inside, same at inside ∙ told_key) still
+      (less, stands, ours_is ∙ parts.0, subst (λ (x : ℕ). Below h x t) parts.1 b) (inl (refl, refl)) (λ p k has. inr has)
+      (λ p k has. no_more p k has) (λ c used. uses c used) (λ c off away. others c away)
     where
       no_more : (p k : ℕ) → Has p k (fork cell h (ours / 2) (tip at key) t) → Has p k t ⊎ ((p ≡ at) × (k ≡ key))
       no_more p k (inl has) = inr (sym has.0, sym has.1)
@@ -181,30 +172,10 @@ module _ (cells : Rows) (key at cell under bits h ours theirs : ℕ) (t : Trie) 
       Gains cells key at cell under bits (2 * cell + 2) t before after
   gains_behind first tells =
       let parts = even_less theirs ours (sym alike) first in
-      record {
-        grown = fork cell h (ours / 2) t (tip at key);
-        is = refl;
-        held = (
-          within,
-          tells.level_is,
-          tells.prefix_is,
-          tells.left_is,
-          tells.right_is,
-          still,
-          (inside, same at inside ∙ told_key),
-        );
-        below = (
-          less,
-          stands,
-          subst (λ (x : ℕ). Below h x t) (parts.0 ∙ ap (λ (x : ℕ). 2 * x) (sym alike)) b,
-          ours_is ∙ parts.1 ∙ ap (λ (x : ℕ). 2 * x + 1) (sym alike),
-        );
-        there = inr (refl, refl);
-        kept = λ p k has. inl has;
-        no_more = λ p k has. no_more p k has;
-        uses = λ c used. uses c used;
-        stays = λ c off away. others c away;
-      }
+      let low = subst (λ (x : ℕ). Below h x t) (parts.0 ∙ ap (λ (x : ℕ). 2 * x) (sym alike)) b in
+      let high = ours_is ∙ parts.1 ∙ ap (λ (x : ℕ). 2 * x + 1) (sym alike) in
+      gains_by t (tip at key) tells refl within refl refl still (inside, same at inside ∙ told_key) (less, stands, low, high)
+      (inr (refl, refl)) (λ p k has. inl has) (λ p k has. no_more p k has) (λ c used. uses c used) (λ c off away. others c away)
     where
       no_more : (p k : ℕ) → Has p k (fork cell h (ours / 2) t (tip at key)) → Has p k t ⊎ ((p ≡ at) × (k ≡ key))
       no_more p k (inl has) = inl has

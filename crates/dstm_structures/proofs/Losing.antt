@@ -35,6 +35,30 @@ module _ (cells : Rows) (key at under bits number p j q link : ℕ) (l r : Trie)
   odd_even : 2 * q + 1 ≡ 2 * q → ⊥
   odd_even e = omega (arith, e)
 
+  -- a side stays where the other one was set
+  right_stays : ((c : ℕ) → (Uses c l → ⊥) → words_at cells mid c ≡ words_at cells before c) →
+      Holds cells.capacity (key_told cells after) (words_at cells after) r
+  right_stays stays =
+      far_held cells.capacity (key_told cells before) (key_told cells mid) (key_told cells after) (words_at cells before)
+      (words_at cells mid) (words_at cells after) p j l (2 * q) (λ c. ⊥) held.1 b.2 held.5 same_on others
+      r (2 * q + 1) even_odd b.3 held.6 same (λ c e used. e) (λ c off new. stays c off)
+
+  left_stays : ((c : ℕ) → (Uses c r → ⊥) → words_at cells mid c ≡ words_at cells before c) →
+      Holds cells.capacity (key_told cells after) (words_at cells after) l
+  left_stays stays =
+      far_held cells.capacity (key_told cells before) (key_told cells mid) (key_told cells after) (words_at cells before)
+      (words_at cells mid) (words_at cells after) p j r (2 * q + 1) (λ c. ⊥) held.1 b.3 held.6 same_on others
+      l (2 * q) odd_even b.2 held.5 same (λ c e used. e) (λ c off new. stays c off)
+
+  -- and has other keys
+  right_apart : key / 2 ^ j ≡ 2 * q → (a k : ℕ) → Has a k r → Has a k t × (k ≡ key → ⊥)
+  right_apart even a k has =
+      (inr has, parted j (2 * q) (2 * q + 1) key k even_odd even (below-key j (2 * q + 1) r b.3 a k has))
+
+  left_apart : key / 2 ^ j ≡ 2 * q + 1 → (a k : ℕ) → Has a k l → Has a k t × (k ≡ key → ⊥)
+  left_apart odd a k has =
+      (inl has, parted j (2 * q + 1) (2 * q) key k odd_even odd (below-key j (2 * q) l b.2 a k has))
+
   -- The left side keeps other tips.
   module _ (even : key / 2 ^ j ≡ 2 * q) (g : LeavesRest cells key j (2 * q) link l mid)
       (stays : (c : ℕ) → (Uses c l → ⊥) → words_at cells mid c ≡ words_at cells before c)
@@ -45,20 +69,13 @@ module _ (cells : Rows) (key at under bits number p j q link : ℕ) (l r : Trie)
         (words_at cells mid) (words_at cells after) p j l (2 * q) (λ c. ⊥) held.1 b.2 held.5 same_on others
         g.rest (λ c e is_p. e) (λ c used. inl (g.uses c used)) g.held
 
-    far_left : Holds cells.capacity (key_told cells after) (words_at cells after) r
-    far_left =
-        far_held cells.capacity (key_told cells before) (key_told cells mid) (key_told cells after) (words_at cells before)
-        (words_at cells mid) (words_at cells after) p j l (2 * q) (λ c. ⊥) held.1 b.2 held.5 same_on others
-        r (2 * q + 1) even_odd b.3 held.6 same (λ c e used. e) (λ c off new. stays c off)
-
     kept_left : (a k : ℕ) → Has a k t → (k ≡ key → ⊥) → Has a k (fork p j q g.rest r)
     kept_left a k (inl has) other = inl (g.kept a k has other)
     kept_left a k (inr has) other = inr has
 
     no_more_left : (a k : ℕ) → Has a k (fork p j q g.rest r) → Has a k t × (k ≡ key → ⊥)
     no_more_left a k (inl has) = let had = g.no_more a k has in (inl had.0, had.1)
-    no_more_left a k (inr has) =
-        (inr has, parted j (2 * q) (2 * q + 1) key k even_odd even (below-key j (2 * q + 1) r b.3 a k has))
+    no_more_left a k (inr has) = right_apart even a k has
 
     uses_left : (c : ℕ) → Uses c (fork p j q g.rest r) → Uses c t
     uses_left c (inl e) = inl e
@@ -70,7 +87,7 @@ module _ (cells : Rows) (key at under bits number p j q link : ℕ) (l r : Trie)
       left = inr (record {
         rest = fork p j q g.rest r;
         is = is;
-        held = (held.0, tells.level_is, tells.prefix_is, tells.left_is ∙ g.is, tells.right_is, near_left, far_left);
+        held = (held.0, tells.level_is, tells.prefix_is, tells.left_is ∙ g.is, tells.right_is, near_left, right_stays stays);
         below = (b.0, b.1, g.below, b.3);
         kept = kept_left;
         no_more = no_more_left;
@@ -89,19 +106,12 @@ module _ (cells : Rows) (key at under bits number p j q link : ℕ) (l r : Trie)
         (words_at cells mid) (words_at cells after) p j r (2 * q + 1) (λ c. ⊥) held.1 b.3 held.6 same_on others
         g.rest (λ c e is_p. e) (λ c used. inl (g.uses c used)) g.held
 
-    far_right : Holds cells.capacity (key_told cells after) (words_at cells after) l
-    far_right =
-        far_held cells.capacity (key_told cells before) (key_told cells mid) (key_told cells after) (words_at cells before)
-        (words_at cells mid) (words_at cells after) p j r (2 * q + 1) (λ c. ⊥) held.1 b.3 held.6 same_on others
-        l (2 * q) odd_even b.2 held.5 same (λ c e used. e) (λ c off new. stays c off)
-
     kept_right : (a k : ℕ) → Has a k t → (k ≡ key → ⊥) → Has a k (fork p j q l g.rest)
     kept_right a k (inl has) other = inl has
     kept_right a k (inr has) other = inr (g.kept a k has other)
 
     no_more_right : (a k : ℕ) → Has a k (fork p j q l g.rest) → Has a k t × (k ≡ key → ⊥)
-    no_more_right a k (inl has) =
-        (inl has, parted j (2 * q + 1) (2 * q) key k odd_even odd (below-key j (2 * q) l b.2 a k has))
+    no_more_right a k (inl has) = left_apart odd a k has
     no_more_right a k (inr has) = let had = g.no_more a k has in (inr had.0, had.1)
 
     uses_right : (c : ℕ) → Uses c (fork p j q l g.rest) → Uses c t
@@ -114,7 +124,7 @@ module _ (cells : Rows) (key at under bits number p j q link : ℕ) (l r : Trie)
       left = inr (record {
         rest = fork p j q l g.rest;
         is = is;
-        held = (held.0, tells.level_is, tells.prefix_is, tells.left_is, tells.right_is ∙ g.is, far_right, near_right);
+        held = (held.0, tells.level_is, tells.prefix_is, tells.left_is, tells.right_is ∙ g.is, left_stays stays, near_right);
         below = (b.0, b.1, b.2, g.below);
         kept = kept_right;
         no_more = no_more_right;
@@ -124,56 +134,42 @@ module _ (cells : Rows) (key at under bits number p j q link : ℕ) (l r : Trie)
     }
 
   -- A side has no other tip: the other side stays, and the fork's cell is free.
+  leaves_side : (side : Trie) (side_bits : ℕ) → side_bits / 2 ≡ q → Below j side_bits side →
+      Holds cells.capacity (key_told cells after) (words_at cells after) side →
+      ((a k : ℕ) → Has a k t → (k ≡ key → ⊥) → Has a k side) → ((a k : ℕ) → Has a k side → Has a k t × (k ≡ key → ⊥)) →
+      ((c : ℕ) → Uses c side → Uses c t) → LeavesRest cells key under bits (link_to side) t after
+  leaves_side side side_bits half_is below stands kept no_more uses = record {
+    rest = side;
+    is = refl;
+    held = stands;
+    below = widen j q under bits side_bits b.0 b.1 half_is side below;
+    kept = kept;
+    no_more = no_more;
+    uses = uses;
+  }
+
   module _ (g : LeavesNone cells key at link l) (even : key / 2 ^ j ≡ 2 * q)
       (stays : (c : ℕ) → (Uses c l → ⊥) → words_at cells mid c ≡ words_at cells before c) where
-    right_held : Holds cells.capacity (key_told cells after) (words_at cells after) r
-    right_held =
-        far_held cells.capacity (key_told cells before) (key_told cells mid) (key_told cells after) (words_at cells before)
-        (words_at cells mid) (words_at cells after) p j l (2 * q) (λ c. ⊥) held.1 b.2 held.5 same_on others
-        r (2 * q + 1) even_odd b.3 held.6 same (λ c e used. e) (λ c off new. stays c off)
-
     kept_on_right : (a k : ℕ) → Has a k t → (k ≡ key → ⊥) → Has a k r
     kept_on_right a k (inl has) other = absurd (other (g.alone a k has).1)
     kept_on_right a k (inr has) other = has
 
     pub loses_all_left : Loses cells key at under bits (link_to r) t before after
     loses_all_left = record {
-      left = inr (record {
-        rest = r;
-        is = refl;
-        held = right_held;
-        below = widen j q under bits (2 * q + 1) b.0 b.1 (half_odd q) r b.3;
-        kept = kept_on_right;
-        no_more = λ a k has.
-            (inr has, parted j (2 * q) (2 * q + 1) key k even_odd even (below-key j (2 * q + 1) r b.3 a k has));
-        uses = λ c used. inr (inr used);
-      });
+      left = inr (leaves_side r (2 * q + 1) (half_odd q) b.3 (right_stays stays) kept_on_right (right_apart even)
+          (λ c used. inr (inr used)));
       stays = λ c off. others c (λ e. off (inl e)) ∙ stays c (λ used. off (inr (inl used)));
     }
 
   module _ (g : LeavesNone cells key at link r) (odd : key / 2 ^ j ≡ 2 * q + 1)
       (stays : (c : ℕ) → (Uses c r → ⊥) → words_at cells mid c ≡ words_at cells before c) where
-    left_held : Holds cells.capacity (key_told cells after) (words_at cells after) l
-    left_held =
-        far_held cells.capacity (key_told cells before) (key_told cells mid) (key_told cells after) (words_at cells before)
-        (words_at cells mid) (words_at cells after) p j r (2 * q + 1) (λ c. ⊥) held.1 b.3 held.6 same_on others
-        l (2 * q) odd_even b.2 held.5 same (λ c e used. e) (λ c off new. stays c off)
-
     kept_on_left : (a k : ℕ) → Has a k t → (k ≡ key → ⊥) → Has a k l
     kept_on_left a k (inl has) other = has
     kept_on_left a k (inr has) other = absurd (other (g.alone a k has).1)
 
     pub loses_all_right : Loses cells key at under bits (link_to l) t before after
     loses_all_right = record {
-      left = inr (record {
-        rest = l;
-        is = refl;
-        held = left_held;
-        below = widen j q under bits (2 * q) b.0 b.1 (half_even q) l b.2;
-        kept = kept_on_left;
-        no_more = λ a k has.
-            (inl has, parted j (2 * q + 1) (2 * q) key k odd_even odd (below-key j (2 * q) l b.2 a k has));
-        uses = λ c used. inr (inl used);
-      });
+      left = inr (leaves_side l (2 * q) (half_even q) b.2 (left_stays stays) kept_on_left (left_apart odd)
+          (λ c used. inr (inl used)));
       stays = λ c off. others c (λ e. off (inl e)) ∙ stays c (λ used. off (inr (inr used)));
     }

@@ -55,6 +55,13 @@ module _ (cells : Rows) where
         greater_held = held.6;
       }
 
+  -- it is not below a level that is not above its own
+  pub fork-not-below : {at level prefix left right : ℕ} {values : List Val} {t : Trie} (under bits : ℕ) →
+      IsFork at level prefix left right values t → Below under bits t → under ≤ level → ⊥
+  fork-not-below {at} {level} {prefix} under bits f below high =
+      let b : Below under bits (fork at level prefix f.lesser f.greater) = subst (Below under bits) f.is below in
+      omega (arith, b.0, high)
+
   -- where nothing was set, a trie is still held
   held-same : (before after : List Val) (t : Trie) → after ≡ before → HoldsIn first n before t → HoldsIn first n after t
   held-same before after t same held = subst (λ (v : List Val). HoldsIn first n v t) (sym same) held
@@ -101,9 +108,7 @@ module _ (cells : Rows) where
         TellsFork at level prefix left right (forks_in first n before) → after ≡ before →
         Finds cells finds link under None before after
     finds-stopped finds before after high f same = record {
-      is = λ bits t link_is held below.
-          let b = subst (Below under bits) (forked before f t link_is held).is below in
-          absurd (omega (arith, b.0, high));
+      is = λ bits t link_is held below. absurd (fork-not-below under bits (forked before f t link_is held) below high);
       nowhere = λ zero. absurd (somewhere zero);
       same = same;
     }

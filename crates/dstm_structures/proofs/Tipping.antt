@@ -14,11 +14,21 @@ use Rattle.dstm_structures.specs.declared.order.Link.TheVariants.{Nothing, Tip}
 use Rattle.dstm_structures.proofs.Doing.{Reads, Writes}
 use Rattle.dstm_structures.proofs.Forks.{to_fork}
 use Rattle.dstm_structures.proofs.Growing.{gains_before, gains_behind, gains_left, gains_right}
-use Rattle.dstm_structures.proofs.Ordering.{IsFork, fork-is, led}
+use Rattle.dstm_structures.proofs.Ordering.{IsFork, fork-is, fork-not-below, led}
 use Rattle.dstm_structures.proofs.Orders.{fork-not-nothing, leads, tip-not-fork, tip-not-nothing, tip-same}
 use Rattle.dstm_structures.proofs.Places.{distance}
 use Rattle.dstm_structures.proofs.Powers.{differ_above, half, higher}
 use Rattle.dstm_structures.proofs.Tries.{not_above, not_free, prefix_at}
+
+-- a fork's cell tells the same where it has the same words
+pub tells_on : {cell level prefix left right : ℕ} {forks now : ℕ → ℕ × ℕ} → now cell ≡ forks cell →
+    TellsFork cell level prefix left right forks → TellsFork cell level prefix left right now
+tells_on same tells = record {
+  level_is = ap (λ (w : ℕ × ℕ). level_in w.1) same ∙ tells.level_is;
+  prefix_is = ap (λ (w : ℕ × ℕ). w.0) same ∙ tells.prefix_is;
+  left_is = ap (λ (w : ℕ × ℕ). left_in w.1) same ∙ tells.left_is;
+  right_is = ap (λ (w : ℕ × ℕ). right_in w.1) same ∙ tells.right_is;
+}
 
 module _ (cells : Rows) where
   abbrev n : ℕ
@@ -262,16 +272,9 @@ module _ (cells : Rows) where
       pub adds_high : (now : ℕ) → under ≤ held.level → AddsTip cells key at cell link under now before mid
       adds_high now high = record {
         alone = λ zero. absurd (leads_on zero);
-        gains = λ bits t there holds below. absurd (never bits t (parts t there holds) below);
+        gains = λ bits t there holds below. absurd (fork-not-below cells under bits (parts t there holds) below high);
         others = all_stay before mid looks.same;
       }
-        where
-          never : (bits : ℕ) (t : Trie) → IsFork cells over held.level held.prefix held.left held.right before t →
-              Below under bits t → ⊥
-          never bits t f below =
-              let b : Below under bits (fork over held.level held.prefix f.lesser f.greater) =
-              subst (λ (x : Trie). Below under bits x) f.is below in
-              omega (arith, b.0, high)
 
       pub adds_over : (now : ℕ) → under ≤ 64 → AddsOver cells key at cell over held now mid after →
           AddsTip cells key at cell link under now before after
@@ -311,12 +314,7 @@ module _ (cells : Rows) where
 
             still : words_at cells near over ≡ words_at cells before over →
                 TellsFork over held.level held.prefix held.left held.right (words_at cells near)
-            still same = record {
-              level_is = ap (λ (w : ℕ × ℕ). level_in w.1) same ∙ looks.tells.level_is;
-              prefix_is = ap (λ (w : ℕ × ℕ). w.0) same ∙ looks.tells.prefix_is;
-              left_is = ap (λ (w : ℕ × ℕ). left_in w.1) same ∙ looks.tells.left_is;
-              right_is = ap (λ (w : ℕ × ℕ). right_in w.1) same ∙ looks.tells.right_is;
-            }
+            still same = tells_on same looks.tells
 
             by : (g : Bool) → g ≡ (part % 2 == 1) →
                 AddsTip cells key at cell (cond g held.right held.left) held.level now before near →
@@ -379,26 +377,29 @@ module _ (cells : Rows) where
       (apart : ours ≡ theirs → ⊥) (level : made.level ≡ h) (prefix : made.prefix ≡ ours / 2)
       (left : made.left ≡ cond (nat_lt ours theirs) first_link link) (right : made.right ≡ cond (nat_lt ours theirs) link first_link)
       (first_is : first_link ≡ 2 * at + 1) (link_is : link ≡ link_to t) (sets : SetsFork cells cell made before after) where
+    made_tells : (lesser greater : ℕ) → made.left ≡ lesser → made.right ≡ greater →
+        TellsFork cell h (ours / 2) lesser greater (words_at cells after)
+    made_tells lesser greater left_is right_is = record {
+      level_is = sets.tells.level_is ∙ level;
+      prefix_is = sets.tells.prefix_is ∙ prefix;
+      left_is = sets.tells.left_is ∙ left_is;
+      right_is = sets.tells.right_is ∙ right_is;
+    }
+
     by_order : (ours < theirs) ⊎ (theirs < ours) → Gains cells key at cell under bits (2 * cell + 2) t before after
     by_order (inl low) =
         gains_before cells key at cell under bits h ours theirs t before after held b inside within told_key free less in_bits
-        ours_is alike (keys_stay_one cell before after sets.others) (words_stay cell before after sets.others) low (record {
-          level_is = sets.tells.level_is ∙ level;
-          prefix_is = sets.tells.prefix_is ∙ prefix;
-          left_is = sets.tells.left_is ∙ left ∙ first_of ours theirs first_link link low ∙ first_is;
-          right_is = sets.tells.right_is ∙ right ∙ first_of ours theirs link first_link low ∙ link_is;
-        })
+        ours_is alike (keys_stay_one cell before after sets.others) (words_stay cell before after sets.others) low
+        (made_tells (2 * at + 1) (link_to t) (left ∙ first_of ours theirs first_link link low ∙ first_is)
+        (right ∙ first_of ours theirs link first_link low ∙ link_is))
       where
         first_of : (a b x y : ℕ) → a < b → cond (nat_lt a b) x y ≡ x
         first_of a b x y lt = grind (arith, lt)
     by_order (inr high) =
         gains_behind cells key at cell under bits h ours theirs t before after held b inside within told_key free less in_bits
-        ours_is alike (keys_stay_one cell before after sets.others) (words_stay cell before after sets.others) high (record {
-          level_is = sets.tells.level_is ∙ level;
-          prefix_is = sets.tells.prefix_is ∙ prefix;
-          left_is = sets.tells.left_is ∙ left ∙ second_of ours theirs first_link link high ∙ link_is;
-          right_is = sets.tells.right_is ∙ right ∙ second_of ours theirs link first_link high ∙ first_is;
-        })
+        ours_is alike (keys_stay_one cell before after sets.others) (words_stay cell before after sets.others) high
+        (made_tells (link_to t) (2 * at + 1) (left ∙ second_of ours theirs first_link link high ∙ link_is)
+        (right ∙ second_of ours theirs link first_link high ∙ first_is))
       where
         second_of : (a b x y : ℕ) → b < a → cond (nat_lt a b) x y ≡ y
         second_of a b x y lt = grind (arith, lt)

@@ -14,11 +14,8 @@ loop-passed-init g c = (
   c.in_ok-reach.ensures.may,
 )
 
-pub returns-in_err-empty-clause-keeps : goal.returns-in_err-empty-clause-keeps
-returns-in_err-empty-clause-keeps g c = c.in_err-empty.ensures.keeps ∙ c.loop-passed.invariant.0
-
 pub returns-in_err-empty-clause-notes : goal.returns-in_err-empty-clause-notes
-returns-in_err-empty-clause-notes g c = notes_twice c.loop-passed.invariant.1 c.in_err-empty.ensures.notes
+returns-in_err-empty-clause-notes g c = search notes_twice
 
 pub loop-passed-preserved : goal.loop-passed-preserved
 loop-passed-preserved g c = (
@@ -32,17 +29,8 @@ loop-passed-preserved g c = (
   c.in_ok-empty.ensures.may,
 )
 
-pub returns-clause-keeps : goal.returns-clause-keeps
-returns-clause-keeps g c = c.loop-passed.invariant.0
-
-pub returns-clause-notes : goal.returns-clause-notes
-returns-clause-notes g c = c.loop-passed.invariant.1
-
 pub returns-clause-clears : goal.returns-clause-clears
 returns-clause-clears g c =
     does-as c.loop-passed.invariant.2
     (λ before after size. clear-end c.args.self c.args.key c.in_ok-reach.reach c.loop-passed.passed before after
     (omega (arith, c.loop-passed-test.false)))
-
-pub returns-clause-may : goal.returns-clause-may
-returns-clause-may g c = c.loop-passed.invariant.3

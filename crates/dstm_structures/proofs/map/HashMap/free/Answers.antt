@@ -12,17 +12,11 @@ loop-passed-init g c = (
   λ m. m,
 )
 
-pub returns-in_err-slot-clause-keeps : goal.returns-in_err-slot-clause-keeps
-returns-in_err-slot-clause-keeps g c = c.in_err-slot.ensures.keeps ∙ c.loop-passed.invariant.0
-
 pub returns-in_err-slot-clause-notes : goal.returns-in_err-slot-clause-notes
-returns-in_err-slot-clause-notes g c = notes_twice c.loop-passed.invariant.1 c.in_err-slot.ensures.notes
-
-pub returns-then-is_free-clause-keeps : goal.returns-then-is_free-clause-keeps
-returns-then-is_free-clause-keeps g c = c.in_ok-slot.ensures.keeps ∙ c.loop-passed.invariant.0
+returns-in_err-slot-clause-notes g c = search notes_twice
 
 pub returns-then-is_free-clause-notes : goal.returns-then-is_free-clause-notes
-returns-then-is_free-clause-notes g c = notes_twice c.loop-passed.invariant.1 c.in_ok-slot.ensures.notes
+returns-then-is_free-clause-notes g c = search notes_twice
 
 pub returns-then-is_free-clause-frees : goal.returns-then-is_free-clause-frees
 returns-then-is_free-clause-frees g c =
@@ -42,17 +36,8 @@ loop-passed-preserved g c = (
   λ m. c.in_ok-slot.ensures.may,
 )
 
-pub returns-clause-keeps : goal.returns-clause-keeps
-returns-clause-keeps g c = c.loop-passed.invariant.0
-
-pub returns-clause-notes : goal.returns-clause-notes
-returns-clause-notes g c = c.loop-passed.invariant.1
-
 pub returns-clause-frees : goal.returns-clause-frees
 returns-clause-frees g c =
     does-as c.loop-passed.invariant.2
     (λ before after size p is. pass-none c.args.self c.args.home c.args.reach c.loop-passed.passed before after
     (omega (arith, c.loop-passed-test.false)) (p is))
-
-pub returns-clause-may : goal.returns-clause-may
-returns-clause-may g c = c.loop-passed.invariant.3

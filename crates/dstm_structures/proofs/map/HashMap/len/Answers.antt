@@ -13,11 +13,8 @@ loop-at-init g c = (
   λ some. absurd (omega (arith, some)),
 )
 
-pub returns-in_err-key-clause-keeps : goal.returns-in_err-key-clause-keeps
-returns-in_err-key-clause-keeps g c = c.in_err-key.ensures.keeps ∙ c.loop-at.invariant.1
-
 pub returns-in_err-key-clause-notes : goal.returns-in_err-key-clause-notes
-returns-in_err-key-clause-notes g c = notes_twice c.loop-at.invariant.2 c.in_err-key.ensures.notes
+returns-in_err-key-clause-notes g c = search notes_twice
 
 pub loop-at-preserved : goal.loop-at-preserved
 loop-at-preserved g c = (
@@ -30,12 +27,6 @@ loop-at-preserved g c = (
       c.in_ok-key.key before mid after c.one_if-count.ensures.is),
   λ some. c.in_ok-key.ensures.may,
 )
-
-pub returns-clause-keeps : goal.returns-clause-keeps
-returns-clause-keeps g c = c.loop-at.invariant.1
-
-pub returns-clause-notes : goal.returns-clause-notes
-returns-clause-notes g c = c.loop-at.invariant.2
 
 pub returns-clause-counts : goal.returns-clause-counts
 returns-clause-counts g c =

@@ -12,17 +12,11 @@ loop-passed-init g c = (
   λ m. m,
 )
 
-pub returns-in_err-held-clause-keeps : goal.returns-in_err-held-clause-keeps
-returns-in_err-held-clause-keeps g c = c.in_err-held.ensures.keeps ∙ c.loop-passed.invariant.0
-
 pub returns-in_err-held-clause-notes : goal.returns-in_err-held-clause-notes
-returns-in_err-held-clause-notes g c = notes_twice c.loop-passed.invariant.1 c.in_err-held.ensures.notes
-
-pub returns-then-held-eq0-clause-keeps : goal.returns-then-held-eq0-clause-keeps
-returns-then-held-eq0-clause-keeps g c = c.in_ok-held.ensures.keeps ∙ c.loop-passed.invariant.0
+returns-in_err-held-clause-notes g c = search notes_twice
 
 pub returns-then-held-eq0-clause-notes : goal.returns-then-held-eq0-clause-notes
-returns-then-held-eq0-clause-notes g c = notes_twice c.loop-passed.invariant.1 c.in_ok-held.ensures.notes
+returns-then-held-eq0-clause-notes g c = search notes_twice
 
 pub returns-then-held-eq0-clause-seeks : goal.returns-then-held-eq0-clause-seeks
 returns-then-held-eq0-clause-seeks g c =
@@ -42,12 +36,6 @@ loop-passed-preserved g c = (
   λ m. c.in_ok-held.ensures.may,
 )
 
-pub returns-clause-keeps : goal.returns-clause-keeps
-returns-clause-keeps g c = c.loop-passed.invariant.0
-
-pub returns-clause-notes : goal.returns-clause-notes
-returns-clause-notes g c = c.loop-passed.invariant.1
-
 pub returns-clause-seeks : goal.returns-clause-seeks
 returns-clause-seeks g c =
     does-as c.loop-passed.invariant.2
@@ -55,6 +43,3 @@ returns-clause-seeks g c =
 
 pub returns-then-held-eq0-clause-may : goal.returns-then-held-eq0-clause-may
 returns-then-held-eq0-clause-may g c m = c.in_ok-held.ensures.may
-
-pub returns-clause-may : goal.returns-clause-may
-returns-clause-may g c = c.loop-passed.invariant.3
