@@ -46,31 +46,50 @@ pub fn call_on<R: Threads + Sync, G: Gate + Sync>(
     gate: &G,
     devices: Devices<'_>,
 ) -> Result<Ran, AllocError> {
+    let words = words_of(alloc, line)?;
+    let mut source = MemorySource::make(alloc, input, devices.read_fails)?;
+    let mut out = sink_of(alloc, devices.write_fails, devices.room)?;
+    let mut err = sink_of(alloc, &[], 100)?;
+    let status = status_of(rt, alloc, &words, &mut source, &mut out, &mut err, gate);
+    ran_of(alloc, status, out.taken(), err.taken())
+}
+
+// The words of a line, cut at its spaces.
+pub fn words_of(alloc: Global, line: &str) -> Result<Vec<String>, AllocError> {
     let mut words = Vec::new(alloc);
     for word in line.split(' ') {
         words.push(String::from_str(alloc, word)?)?;
     }
-    let mut source = MemorySource::make(alloc, input, devices.read_fails)?;
-    let mut out = MemorySink::make(alloc, devices.write_fails)?;
-    let mut err = MemorySink::make(alloc, &[])?;
-    out.reserve(devices.room)?;
-    err.reserve(100)?;
-    let mut rounds = Rounds::make(alloc);
-    let status = dstm(
-        rt,
-        alloc,
-        &words,
-        &mut source,
-        &mut out,
-        &mut err,
-        gate,
-        &mut rounds,
-    );
+    Ok(words)
+}
+
+// A sink with room for so many bytes.
+fn sink_of(alloc: Global, write_fails: &[u64], room: usize) -> Result<MemorySink, AllocError> {
+    let mut sink = MemorySink::make(alloc, write_fails)?;
+    sink.reserve(room)?;
+    Ok(sink)
+}
+
+fn ran_of(alloc: Global, status: u8, out: &[u8], err: &[u8]) -> Result<Ran, AllocError> {
     Ok(Ran {
         status,
-        out: Vec::from_slice(alloc, out.taken())?,
-        err: Vec::from_slice(alloc, err.taken())?,
+        out: Vec::from_slice(alloc, out)?,
+        err: Vec::from_slice(alloc, err)?,
     })
+}
+
+// Calls the program, by a contract that says nothing of what it writes: the tests look at that.
+fn status_of<R: Threads + Sync, G: Gate + Sync>(
+    rt: &R,
+    alloc: Global,
+    words: &[String],
+    source: &mut MemorySource,
+    out: &mut MemorySink,
+    err: &mut MemorySink,
+    gate: &G,
+) -> u8 {
+    let mut rounds = Rounds::make(alloc);
+    dstm(rt, alloc, words, source, out, err, gate, &mut rounds)
 }
 
 // Lines that run a workload: by DSTM under each manager, with each of these options, and by TL2.

@@ -16,26 +16,26 @@ fn run_on<R: Threads + Sync>(
     call_on(rt, alloc, line, input, &OpenGate, devices)
 }
 
+// What a call is to answer: its status, and what it writes to `out` and to `err`.
+type Answer<'a> = (u8, &'a str, &'a str);
+
+fn answers(ran: &Ran, want: Answer<'_>) -> bool {
+    let (status, out, err) = want;
+    ran.status == status
+        && ran.out.as_slice() == out.as_bytes()
+        && ran.err.as_slice() == err.as_bytes()
+}
+
 fn expect<R: Abort + Threads + Sync>(
     rt: &R,
     alloc: Global,
     line: &str,
     input: &[u8],
-    want: (u8, &str, &str),
+    want: Answer<'_>,
 ) -> Result<(), AllocError> {
     let ran = run_on(rt, alloc, line, input, SOUND)?;
     let short = input.get(..200).unwrap_or(input);
-    assert_eq!(rt;
-        ran.out.as_slice(),
-        want.1.as_bytes(),
-        "{line} on {short:?}"
-    );
-    assert_eq!(rt;
-        ran.err.as_slice(),
-        want.2.as_bytes(),
-        "{line} on {short:?}"
-    );
-    assert_eq!(rt; ran.status, want.0, "{line} on {short:?}");
+    assert!(rt; answers(&ran, want), "{line} on {short:?}");
     Ok(())
 }
 
@@ -86,19 +86,16 @@ fn workloads_are_run(rt: HostRuntime) -> Result<(), Fail> {
             expect(&rt, rt.alloc(), line, input.as_bytes(), (0, report, ""))?;
         }
     }
-    let large = run_on(
-        &rt,
-        rt.alloc(),
-        "dstm run",
-        b"dstm 1\nbank 4096 1000000000\ntx 0 total\n",
-        SOUND,
-    )?;
-    assert_eq!(rt; large.status, 0);
-    assert!(rt;
-        large
-            .out
-            .starts_with(b"dstm report 1\n3 0 0.0 4096000000000\nbank 1000000000 ")
-    );
+    Ok(())
+}
+
+#[test]
+fn a_large_bank_is_run(rt: HostRuntime) -> Result<(), Fail> {
+    let input = b"dstm 1\nbank 4096 1000000000\ntx 0 total\n";
+    let begin = b"dstm report 1\n3 0 0.0 4096000000000\nbank 1000000000 ";
+    let large = run_on(&rt, rt.alloc(), "dstm run", input, SOUND)?;
+    assert!(rt; large.status == 0);
+    assert!(rt; large.out.starts_with(begin));
     Ok(())
 }
 
@@ -133,29 +130,50 @@ fn workloads_are_refused(rt: HostRuntime) -> Result<(), Fail> {
     Ok(())
 }
 
+// A text, and then so many bytes of one kind.
+fn padded(alloc: Global, text: &[u8], byte: u8, count: usize) -> Result<Vec<u8>, AllocError> {
+    let mut input = Vec::from_slice(alloc, text)?;
+    input.resize(input.len().saturating_add(count), byte)?;
+    Ok(input)
+}
+
 #[test]
 fn inputs_of_any_bytes_and_size(rt: HostRuntime) -> Result<(), Fail> {
-    let comment = (0, "dstm report 1\nend 0\n", "");
-    expect(&rt, rt.alloc(), "dstm run", b"#\xC8\ndstm  1", comment)?;
+    let header = (2, "", "dstm: line 2: header\n");
+    let too_long = (2, "", "dstm: input too long\n");
+    // A line, how the input begins, the byte that comes then, how often, and the answer.
+    let rows: [(&str, &[u8], u8, usize, Answer<'_>); 5] = [
+        (
+            "dstm run",
+            b"#\xC8\ndstm  1",
+            b'1',
+            0,
+            (0, "dstm report 1\nend 0\n", ""),
+        ),
+        (
+            "dstm run",
+            b"dstm 1\nbank 1 5\ntx 0",
+            b' ',
+            4_000_000,
+            (2, "", "dstm: line 3: missing\n"),
+        ),
+        ("dstm run", b"", b'#', 4_194_304, header),
+        ("dstm run", b"", b'#', 4_194_305, too_long),
+        ("dstm check", b"", b'#', 4_194_305, header),
+    ];
+    for (line, text, byte, count, want) in rows {
+        let input = padded(rt.alloc(), text, byte, count)?;
+        expect(&rt, rt.alloc(), line, &input, want)?;
+    }
+    Ok(())
+}
 
-    let mut input = Vec::from_slice(rt.alloc(), b"dstm 1\nbank ")?;
-    input.resize(input.len() + 1_000, b'9')?;
+#[test]
+fn a_number_of_any_length(rt: HostRuntime) -> Result<(), Fail> {
+    let mut input = padded(rt.alloc(), b"dstm 1\nbank ", b'9', 1_000)?;
     input.extend_from_slice(b" 5\n")?;
     let large = (2, "", "dstm: line 2: out of range\n");
     expect(&rt, rt.alloc(), "dstm run", &input, large)?;
-
-    let mut input = Vec::from_slice(rt.alloc(), b"dstm 1\nbank 1 5\ntx 0")?;
-    input.resize(input.len() + 4_000_000, b' ')?;
-    let missing = (2, "", "dstm: line 3: missing\n");
-    expect(&rt, rt.alloc(), "dstm run", &input, missing)?;
-
-    let header = (2, "", "dstm: line 2: header\n");
-    let mut input = vec![in rt.alloc(); b'#'; 4_194_304]?;
-    expect(&rt, rt.alloc(), "dstm run", &input, header)?;
-    input.push(b'#')?;
-    let too_long = (2, "", "dstm: input too long\n");
-    expect(&rt, rt.alloc(), "dstm run", &input, too_long)?;
-    expect(&rt, rt.alloc(), "dstm check", &input, header)?;
     Ok(())
 }
 
@@ -200,95 +218,114 @@ fn reports_are_checked(rt: HostRuntime) -> Result<(), Fail> {
 
 #[test]
 fn words_of_the_line(rt: HostRuntime) -> Result<(), Fail> {
-    let refused = ["dstm", "dstm run --engine tl2 --release"];
     let usage = (1, "", "usage: dstm run, check, gen or demo\n");
-    for line in refused {
-        expect(&rt, rt.alloc(), line, FIRST.as_bytes(), usage)?;
+    let rows = [
+        ("dstm", usage),
+        ("dstm run --engine tl2 --release", usage),
+        (
+            "dstm run --manager=karma --all-write",
+            (0, FIRST_REPORT, ""),
+        ),
+    ];
+    for (line, want) in rows {
+        expect(&rt, rt.alloc(), line, FIRST.as_bytes(), want)?;
     }
-    let options = "dstm run --manager=karma --all-write";
-    expect(
-        &rt,
-        rt.alloc(),
-        options,
-        FIRST.as_bytes(),
-        (0, FIRST_REPORT, ""),
-    )?;
     Ok(())
 }
 
 #[test]
 fn generated_workloads(rt: HostRuntime) -> Result<(), Fail> {
-    let empty = "dstm 1\nworkers 1\nbank 8 1000\nlist 64\ntree 1023\n";
-    expect(&rt, rt.alloc(), "dstm gen 7 0 1", b"", (0, empty, ""))?;
-
-    // The lines come from a program of its own, in Python, that has PCG's generator XSH RR 64/32.
-    let three = "dstm 1\nworkers 2\nbank 8 1000\nlist 64\ntree 1023\n\
-        tx 0 remove list 29 ; total\ntx 1 balance 4\ntx 0 transfer 0 4 186\n";
-    expect(&rt, rt.alloc(), "dstm gen 7 3 2", b"", (0, three, ""))?;
-
-    let none = (0, "transactions 0\ntotal 8000\nlawful\n", "");
-    expect(&rt, rt.alloc(), "dstm demo 7 0 1", b"", none)?;
-    let many = (0, "transactions 20000\ntotal 8000\nlawful\n", "");
-    expect(&rt, rt.alloc(), "dstm demo 7 20000 8", b"", many)?;
-    run_takes_generated();
-    check_takes_reports();
+    let rows = [
+        (
+            "dstm gen 7 0 1",
+            "dstm 1\nworkers 1\nbank 8 1000\nlist 64\ntree 1023\n",
+        ),
+        // The lines come from a program of its own, in Python, that has PCG's generator XSH RR 64/32.
+        (
+            "dstm gen 7 3 2",
+            "dstm 1\nworkers 2\nbank 8 1000\nlist 64\ntree 1023\n\
+             tx 0 remove list 29 ; total\ntx 1 balance 4\ntx 0 transfer 0 4 186\n",
+        ),
+        ("dstm demo 7 0 1", "transactions 0\ntotal 8000\nlawful\n"),
+        (
+            "dstm demo 7 20000 8",
+            "transactions 20000\ntotal 8000\nlawful\n",
+        ),
+    ];
+    for (line, out) in rows {
+        expect(&rt, rt.alloc(), line, b"", (0, out, ""))?;
+    }
     Ok(())
 }
 
 #[test]
+fn what_is_generated_and_reported_is_taken(_rt: HostRuntime) {
+    run_takes_generated();
+    check_takes_reports();
+}
+
+// Tells whether a run of the first workload on these devices answers so.
+fn runs_first<R: Threads + Sync>(
+    rt: &R,
+    alloc: Global,
+    devices: Devices<'_>,
+    want: Answer<'_>,
+) -> Result<bool, AllocError> {
+    let ran = run_on(rt, alloc, "dstm run", FIRST.as_bytes(), devices)?;
+    Ok(answers(&ran, want))
+}
+
+// A run reads twice, the second time to see the end, and writes once.
+#[test]
 fn failing_devices(rt: HostRuntime) -> Result<(), Fail> {
-    let input = FIRST.as_bytes();
-    let report = FIRST_REPORT.as_bytes();
-    // A run reads twice, the second time to see the end, and writes once.
-    for at in 0..2 {
+    let read_fault = (3, "", "dstm: read fault\n");
+    let rows: [(&[u64], &[u64], usize, Answer<'_>); 4] = [
+        (&[0], &[], 1_000_000, read_fault),
+        (&[1], &[], 1_000_000, read_fault),
+        (&[], &[0], 1_000_000, (4, "", "dstm: write fault\n")),
+        (&[2], &[1], FIRST_REPORT.len(), (0, FIRST_REPORT, "")),
+    ];
+    for (read_fails, write_fails, room, want) in rows {
         let devices = Devices {
-            read_fails: &[at],
-            ..SOUND
+            read_fails,
+            write_fails,
+            room,
         };
-        let ran = run_on(&rt, rt.alloc(), "dstm run", input, devices)?;
-        assert_eq!(rt; ran.status, 3);
-        assert!(rt; ran.out.is_empty());
-        assert_eq!(rt; ran.err.as_slice(), b"dstm: read fault\n".as_slice());
+        assert!(rt; runs_first(&rt, rt.alloc(), devices, want)?);
     }
+    Ok(())
+}
+
+#[test]
+fn a_sink_without_room(rt: HostRuntime) -> Result<(), Fail> {
+    let report = FIRST_REPORT.as_bytes();
     for room in 0..report.len() {
         let devices = Devices { room, ..SOUND };
-        let ran = run_on(&rt, rt.alloc(), "dstm run", input, devices)?;
-        assert_eq!(rt; ran.status, 4);
-        assert_eq!(rt; ran.out.as_slice(), &report[..room]);
-        assert_eq!(rt; ran.err.as_slice(), b"dstm: write fault\n".as_slice());
+        let want = (4, str::from_utf8(&report[..room])?, "dstm: write fault\n");
+        assert!(rt; runs_first(&rt, rt.alloc(), devices, want)?);
     }
-    let devices = Devices {
-        read_fails: &[2],
-        write_fails: &[1],
-        room: report.len(),
-    };
-    let ran = run_on(&rt, rt.alloc(), "dstm run", input, devices)?;
-    assert_eq!(rt; ran.status, 0);
-    assert_eq!(rt; ran.out.as_slice(), report);
-    let devices = Devices {
-        write_fails: &[0],
-        ..SOUND
-    };
-    let ran = run_on(&rt, rt.alloc(), "dstm run", input, devices)?;
-    assert_eq!(rt; ran.status, 4);
-    assert!(rt; ran.out.is_empty());
     Ok(())
+}
+
+// Tells whether an input is refused without a report, or else run to a lawful one.
+fn is_refused_or_lawful<R: Threads + Sync>(
+    rt: &R,
+    alloc: Global,
+    input: &[u8],
+) -> Result<bool, AllocError> {
+    let ran = run_on(rt, alloc, "dstm run", input, SOUND)?;
+    if ran.status != 0 {
+        return Ok(ran.status == 2 && ran.out.is_empty());
+    }
+    let workload = padded(alloc, input, b'\n', 1)?;
+    is_lawful(rt, alloc, &workload, &ran.out)
 }
 
 #[test]
 fn cut_inputs(rt: HostRuntime) -> Result<(), Fail> {
     let input = ONE_KEY.as_bytes();
     for length in 0..input.len() {
-        let cut = &input[..length];
-        let ran = run_on(&rt, rt.alloc(), "dstm run", cut, SOUND)?;
-        if ran.status == 2 {
-            assert!(rt; ran.out.is_empty());
-            continue;
-        }
-        assert_eq!(rt; ran.status, 0);
-        let mut workload = Vec::from_slice(rt.alloc(), cut)?;
-        workload.push(b'\n')?;
-        assert!(rt; is_lawful(&rt, rt.alloc(), &workload, &ran.out)?);
+        assert!(rt; is_refused_or_lawful(&rt, rt.alloc(), &input[..length])?);
     }
     Ok(())
 }

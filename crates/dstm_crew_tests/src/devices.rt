@@ -5,7 +5,7 @@ use dstm_io::{
     MemorySink, MemorySource, ReadError, Sink, Source, StdSink, StdSource, WriteFault, read_all,
     write_all,
 };
-use std::alloc::Global;
+use std::alloc::{AllocError, Global};
 use std::io;
 use std::io::{ErrorKind, Read, Write};
 use std::test::Fail;
@@ -21,6 +21,17 @@ fn copy<S: Source, K: Sink>(alloc: Global, source: &mut S, sink: &mut K) -> Resu
     Ok(())
 }
 
+// What is read of these bytes, where these calls fail.
+fn read_of(
+    alloc: Global,
+    bytes: &[u8],
+    fails: &[u64],
+    limit: u32,
+) -> Result<Result<Vec<u8>, ReadError>, AllocError> {
+    let mut source = MemorySource::make(alloc, bytes, fails)?;
+    Ok(read_all(alloc, &mut source, limit as usize))
+}
+
 #[test]
 fn reads_up_to_the_limit(rt: HostRuntime) -> Result<(), Fail> {
     for (limit, fails, want) in [
@@ -32,11 +43,9 @@ fn reads_up_to_the_limit(rt: HostRuntime) -> Result<(), Fail> {
         (3, Some(1), Err(ReadError::Fault)),
         (3, Some(2), Ok(3)),
     ] {
-        let fail_at = fails.as_slice();
-        let mut source = MemorySource::make(rt.alloc(), &TEXT, fail_at)?;
-        let answer = read_all(rt.alloc(), &mut source, limit);
+        let answer = read_of(rt.alloc(), &TEXT, fails.as_slice(), limit)?;
         let length = answer.map(|bytes| bytes.len());
-        assert_eq!(rt; length, want, "limit {limit}, failing {fails:?}");
+        assert!(rt; length == want, "limit {limit}, failing {fails:?}");
     }
     Ok(())
 }
@@ -46,15 +55,19 @@ fn reads_long_inputs_and_on_after_a_fault(rt: HostRuntime) -> Result<(), Fail> {
     let bytes = vec![in rt.alloc(); 7u8; 20_000]?;
     let mut source = MemorySource::make(rt.alloc(), &bytes, &[1])?;
     let first = read_all(rt.alloc(), &mut source, 20_000);
-    assert_eq!(rt; first, Err(ReadError::Fault));
+    assert!(rt; first == Err(ReadError::Fault));
     let rest = read_all(rt.alloc(), &mut source, 20_000)?;
-    assert_eq!(rt; rest.as_slice(), &bytes[8_192..]);
-    let mut source = MemorySource::make(rt.alloc(), &bytes, &[])?;
-    let long = read_all(rt.alloc(), &mut source, 19_999);
-    assert_eq!(rt; long, Err(ReadError::TooLong));
-    let mut source = MemorySource::make(rt.alloc(), &bytes, &[])?;
-    let all = read_all(rt.alloc(), &mut source, 20_000)?;
-    assert_eq!(rt; all.as_slice(), bytes.as_slice());
+    assert!(rt; rest.as_slice() == &bytes[8_192..]);
+    Ok(())
+}
+
+#[test]
+fn reads_long_inputs_up_to_the_limit(rt: HostRuntime) -> Result<(), Fail> {
+    let bytes = vec![in rt.alloc(); 7u8; 20_000]?;
+    let long = read_of(rt.alloc(), &bytes, &[], 19_999)?;
+    assert!(rt; long == Err(ReadError::TooLong));
+    let all = read_of(rt.alloc(), &bytes, &[], 20_000)??;
+    assert!(rt; all.as_slice() == bytes.as_slice());
     Ok(())
 }
 
@@ -65,15 +78,20 @@ fn writes_as_far_as_there_is_room(rt: HostRuntime) -> Result<(), Fail> {
         sink.reserve(room)?;
         sink.reserve(1.min(room))?;
         let answer = write_all(&mut sink, &TEXT);
-        assert_eq!(rt; answer.is_ok(), room >= 3, "room {room}");
-        assert_eq!(rt; sink.taken(), &TEXT[..room.min(3)], "room {room}");
+        assert!(rt; answer.is_ok() == (room >= 3));
+        assert!(rt; sink.taken() == &TEXT[..room.min(3)]);
     }
+    Ok(())
+}
+
+#[test]
+fn writes_that_fail(rt: HostRuntime) -> Result<(), Fail> {
     let mut sink = MemorySink::make(rt.alloc(), &[2, 0])?;
     sink.reserve(9)?;
-    assert_eq!(rt; write_all(&mut sink, &TEXT), Err(WriteFault));
-    assert_eq!(rt; write_all(&mut sink, &TEXT), Ok(()));
-    assert_eq!(rt; write_all(&mut sink, &TEXT), Err(WriteFault));
-    assert_eq!(rt; sink.taken(), TEXT.as_slice());
+    for want in [Err(WriteFault), Ok(()), Err(WriteFault)] {
+        assert!(rt; write_all(&mut sink, &TEXT) == want);
+    }
+    assert!(rt; sink.taken() == TEXT.as_slice());
     Ok(())
 }
 
@@ -132,33 +150,36 @@ fn interrupted_calls_are_made_again(rt: HostRuntime) {
     let mut one = [0u8; 1];
     for (times, fails) in [(0, false), (64, false), (65, true)] {
         let mut source = StdSource::make(Interrupted { times });
-        assert_eq!(rt;
-            source.read(&mut one).is_err(),
-            fails,
-            "reading, {times} times"
-        );
+        assert!(rt; source.read(&mut one).is_err() == fails);
         let mut sink = StdSink::make(Interrupted { times });
-        assert_eq!(rt; sink.write(&one).is_err(), fails, "writing, {times} times");
+        assert!(rt; sink.write(&one).is_err() == fails);
     }
 }
 
 #[test]
-fn readers_and_writers_of_the_system(rt: HostRuntime) -> Result<(), Fail> {
+fn readers_of_the_system(rt: HostRuntime) -> Result<(), Fail> {
     let mut source = StdSource::make(TEXT.as_slice());
     let mut sink = MemorySink::make(rt.alloc(), &[])?;
     sink.reserve(3)?;
     copy(rt.alloc(), &mut source, &mut sink)?;
-    assert_eq!(rt; sink.taken(), TEXT.as_slice());
+    assert!(rt; sink.taken() == TEXT.as_slice());
+    Ok(())
+}
 
+#[test]
+fn writers_of_the_system(rt: HostRuntime) -> Result<(), Fail> {
     let mut written = Vec::new(rt.alloc());
     let mut source = MemorySource::make(rt.alloc(), &TEXT, &[])?;
     copy(rt.alloc(), &mut source, &mut StdSink::make(&mut written))?;
-    assert_eq!(rt; written.as_slice(), TEXT.as_slice());
+    assert!(rt; written.as_slice() == TEXT.as_slice());
+    Ok(())
+}
 
+#[test]
+fn readers_and_writers_that_fail(rt: HostRuntime) {
     let mut source = StdSource::make(Failing { calls: 0 });
-    assert_eq!(rt; read_all(rt.alloc(), &mut source, 9), Err(ReadError::Fault));
+    assert!(rt; read_all(rt.alloc(), &mut source, 9) == Err(ReadError::Fault));
     let mut short = [0u8; 2];
     let mut sink = StdSink::make(short.as_mut_slice());
-    assert_eq!(rt; write_all(&mut sink, &TEXT), Err(WriteFault));
-    Ok(())
+    assert!(rt; write_all(&mut sink, &TEXT) == Err(WriteFault));
 }

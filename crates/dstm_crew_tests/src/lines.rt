@@ -1,15 +1,12 @@
+use crate::calls::words_of;
 use dstm_command::{Command, GenSpec, WordsError, read_words};
 use dstm_core::Manager;
 use dstm_options::{Engine, Options};
-use std::alloc::Global;
+use std::alloc::{AllocError, Global};
 use std::test::Fail;
 
-// The words of a line, cut at its spaces.
-fn read_line(alloc: Global, line: &str) -> Result<Result<Command, WordsError>, Fail> {
-    let mut words = Vec::new(alloc);
-    for word in line.split(' ') {
-        words.push(String::from_str(alloc, word)?)?;
-    }
+fn read_line(alloc: Global, line: &str) -> Result<Result<Command, WordsError>, AllocError> {
+    let words = words_of(alloc, line)?;
     Ok(read_words(alloc, words.as_slice()))
 }
 
@@ -39,10 +36,8 @@ fn command_lines(rt: HostRuntime) -> Result<(), Fail> {
         ("dstm demo 7 20000 8", Command::Demo(spec(7, 20_000, 8))),
     ];
     for (line, want) in accepted {
-        match read_line(rt.alloc(), line)? {
-            Ok(command) => assert_eq!(rt; command, want),
-            Err(_) => assert!(rt; false, "{line}"),
-        }
+        let answer = read_line(rt.alloc(), line)?;
+        assert!(rt; matches!(answer, Ok(command) if command == want), "{line}");
     }
     Ok(())
 }

@@ -3,7 +3,7 @@ use dstm_crew::Gate;
 use std::alloc::{AllocError, Global};
 use std::sync::atomic::{AtomicU64, Ordering};
 use std::test::Fail;
-use std::thread::yield_now;
+use std::thread::{Threads, yield_now};
 
 // How many of each worker's passes wait for the other one, and how often the gate looks in all.
 const HELD: u64 = 100;
@@ -84,6 +84,12 @@ fn sum_of_balances(report: &[u8]) -> Option<u64> {
     Some(sum)
 }
 
+// Tells whether a report has balances of this sum, and this line.
+fn tells(report: &[u8], sum: u64, line: &str) -> bool {
+    sum_of_balances(report) == Some(sum)
+        && str::from_utf8(report).is_ok_and(|text| text.contains(line))
+}
+
 // The line of a list that has all keys below this number.
 fn line_of_keys(alloc: Global, keys: u32) -> Result<String, AllocError> {
     let mut line = String::from_str(alloc, "\nlist")?;
@@ -94,6 +100,22 @@ fn line_of_keys(alloc: Global, keys: u32) -> Result<String, AllocError> {
     Ok(line)
 }
 
+// Tells whether both workers meet at each wait, and the report on their jobs is lawful and tells these keys.
+fn all_meet<R: Threads + Sync>(
+    rt: &R,
+    alloc: Global,
+    line: &str,
+    workload: &[u8],
+    keys: &str,
+) -> Result<bool, AllocError> {
+    let gate = Meeting::make();
+    let ran = call(rt, alloc, line, workload, &gate)?;
+    let is_so = ran.status == 0
+        && gate.met.load(Ordering::SeqCst) == 200
+        && tells(&ran.out, 8_000, keys);
+    Ok(is_lawful(rt, alloc, workload, &ran.out)? && is_so)
+}
+
 // Both workers are under way at once: each of the 200 waits at the gate ends since the other worker has come.
 #[test]
 fn two_workers_meet(rt: HostRuntime) -> Result<(), Fail> {
@@ -101,13 +123,7 @@ fn two_workers_meet(rt: HostRuntime) -> Result<(), Fail> {
     let workload = jobs_of_two(alloc)?;
     let keys = line_of_keys(alloc, 50)?;
     for line in &run_lines(alloc, &["", " --all-write", " --release"])? {
-        let gate = Meeting::make();
-        let ran = call(&rt, alloc, line, &workload, &gate)?;
-        assert_eq!(rt; ran.status, 0, "{line}");
-        assert_eq!(rt; gate.met.load(Ordering::SeqCst), 200, "{line}");
-        assert_eq!(rt; sum_of_balances(&ran.out), Some(8000), "{line}");
-        assert!(rt; str::from_utf8(&ran.out)?.contains(&keys), "{line}");
-        assert!(rt; is_lawful(&rt, alloc, &workload, &ran.out)?, "{line}");
+        assert!(rt; all_meet(&rt, alloc, line, &workload, &keys)?, "{line}");
     }
     Ok(())
 }

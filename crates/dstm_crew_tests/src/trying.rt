@@ -1,8 +1,10 @@
 ghost use Rattle.std.specs.Prelude.{◌≡◌, ◌<◌, [], All, IfOk};
 ghost use Rattle.dstm_model.specs.Layout.{IsValid};
+ghost use Rattle.dstm_store.specs.Whole.{IsLawful};
 ghost use Rattle.dstm_jobs.specs.Tables.{AtRest};
 ghost use Rattle.dstm_tables.specs.Callers.{begun, done, home_of, law_of, round_of};
 ghost use Rattle.dstm_tables.specs.Founders.{guests_of, home_there, out_of};
+ghost use Rattle.dstm_tables.specs.Tables.{law_there};
 ghost use Rattle.dstm_tables.specs.Tells.{callers_of};
 ghost use Rattle.dstm_workload.specs.Workload.{IsValidWorkload};
 
@@ -11,7 +13,7 @@ use dstm_crew::{Done, OpenGate, Worker};
 use dstm_jobs::{
     Caller, Finished, Founder, OnlyTried, Style, Table, Zeros, give_up, make, try_alone,
 };
-use dstm_model::{Layout, Reply};
+use dstm_model::{Layout, Reply, Val};
 use dstm_options::{Engine, Options};
 use dstm_store::{StoreLaw, opening, read_state};
 use dstm_workload::{Workload, read_workload};
@@ -80,9 +82,9 @@ fn run_worker(
         release,
         engine,
     };
-    let (table, mut founder, caller) = open_table(alloc, engine, &workload.layout)?;
     let places = places_of(alloc, workload.jobs.as_slice().len())?;
     let done = Done::with_room(alloc, places.len())?;
+    let (table, mut founder, caller) = open_table(alloc, engine, &workload.layout)?;
     let mut worker = Worker {
         number: 0,
         caller,
@@ -93,11 +95,38 @@ fn run_worker(
     worker.run(&table, workload, &options, Some(&OpenGate));
     let Worker { caller, done, .. } = worker;
     founder.retire(&table, caller);
-    let (values, _record) = table.close(alloc, founder)?;
-    let state = read_state(alloc, &workload.layout, &values)?;
-    let mut bank = Vec::new(alloc);
-    bank.extend_from_slice(state.bank.as_slice())?;
+    let bank = bank_of_table(alloc, &workload.layout, table, founder)?;
     Ok((done, bank))
+}
+
+// The balances that a table leaves.
+fn bank_of_table(
+    alloc: Global,
+    layout: &Layout,
+    table: Table,
+    founder: Founder,
+) -> Result<Vec<u64>, AllocError>
+    requires valid { IsValid layout.now }
+    requires founder { home_there founder ≡ table }
+    requires out { out_of founder ≡ 0 }
+    requires guests { guests_of founder ≡ 0 }
+    requires law { (law_there table).layout ≡ layout.now }
+{
+    let (values, _round) = table.close(alloc, founder)?;
+    bank_of(alloc, layout, &values)
+}
+
+fn bank_of(alloc: Global, layout: &Layout, values: &[Val]) -> Result<Vec<u64>, AllocError>
+    requires valid { IsValid layout.now }
+    requires lawful { IsLawful layout.now values.now }
+{
+    let state = read_state(alloc, layout, values)?;
+    Vec::from_slice(alloc, state.bank.as_slice())
+}
+
+// Tells whether the one at a place was done under this number, with these replies.
+fn has(done: &Done, place: usize, number: u64, replies: &[Reply]) -> bool {
+    place < done.len() && done.number(place) == Some(number) && done.replies(place) == replies
 }
 
 // Jobs are done in file order, each under the next number.
@@ -113,15 +142,10 @@ fn a_worker_runs_its_jobs(rt: HostRuntime) -> Result<(), Fail> {
         (Engine::Tl2, true),
     ] {
         let (done, bank) = run_worker(rt.alloc(), engine, &workload, release)?;
-        assert_eq!(rt; done.len(), 2);
-        assert_eq!(rt; done.number(0), Some(0));
-        assert_eq!(rt;
-            done.replies(0),
-            [Reply::Moved, Reply::Number(200)].as_slice()
-        );
-        assert_eq!(rt; done.number(1), Some(1));
-        assert_eq!(rt; done.replies(1), [Reply::Yes, Reply::Yes].as_slice());
-        assert_eq!(rt; bank.as_slice(), [70, 130].as_slice());
+        assert!(rt; done.len() == 2);
+        assert!(rt; has(&done, 0, 0, &[Reply::Moved, Reply::Number(200)]));
+        assert!(rt; has(&done, 1, 1, &[Reply::Yes, Reply::Yes]));
+        assert!(rt; bank.as_slice() == [70, 130].as_slice());
     }
     Ok(())
 }
@@ -135,9 +159,9 @@ fn a_worker_runs_branches(rt: HostRuntime) -> Result<(), Fail> {
     let workload = read_workload(rt.alloc(), text)?;
     for engine in [Engine::Dstm, Engine::Tl2] {
         let (done, bank) = run_worker(rt.alloc(), engine, &workload, false)?;
-        assert_eq!(rt; done.len(), 1);
-        assert_eq!(rt; done.replies(0), [Reply::Moved].as_slice());
-        assert_eq!(rt; bank.as_slice(), [160, 40].as_slice());
+        assert!(rt; done.len() == 1);
+        assert!(rt; has(&done, 0, 0, &[Reply::Moved]));
+        assert!(rt; bank.as_slice() == [160, 40].as_slice());
     }
     Ok(())
 }
@@ -150,14 +174,42 @@ fn an_only_caller_gives_up_a_blocked_job(rt: HostRuntime) -> Result<(), Fail> {
     let workload = read_workload(alloc, text)?;
     for engine in [Engine::Dstm, Engine::Tl2] {
         let (number, finished) = give_up_first(alloc, engine, &workload)?;
-        assert_eq!(rt; number, 0);
-        assert_eq!(rt; finished.number, 1);
-        assert_eq!(rt; finished.replies.as_slice(), [Reply::Number(5)].as_slice());
+        assert!(rt; (number, finished.number) == (0, 1));
+        assert!(rt; finished.replies.as_slice() == [Reply::Number(5)].as_slice());
     }
     Ok(())
 }
 
 // Stands at the first job of two, gives it up and does the second: the number that the first one took, and what was done.
+fn give_up_one(
+    caller: &mut Caller,
+    table: &Table,
+    workload: &Workload,
+) -> Result<(u64, Finished), Fail>
+    requires valid { IsValidWorkload workload.now }
+    requires table { home_of caller.old ≡ table.now }
+    requires only { callers_of (round_of caller.old) ≡ 1 }
+    requires law { (law_of caller.old).layout ≡ workload.now.layout }
+    requires rest { AtRest caller.old }
+{
+    let layout = &workload.layout;
+    let style = Style::of(workload.version, false);
+    let [first, second] = workload.jobs.as_slice() else {
+        return Err(Fail::new("two jobs"));
+    };
+    let OnlyTried::Blocked = try_alone(style, caller, table, layout, first) else {
+        return Err(Fail::new("not blocked"));
+    };
+    let Some(number) = give_up(caller, table) else {
+        return Err(Fail::new("spent"));
+    };
+    match try_alone(style, caller, table, layout, second) {
+        OnlyTried::Done(finished) => Ok((number, finished)),
+        _ => Err(Fail::new("not done")),
+    }
+}
+
+// Does so on a table of its own.
 fn give_up_first(
     alloc: Global,
     engine: Engine,
@@ -165,20 +217,6 @@ fn give_up_first(
 ) -> Result<(u64, Finished), Fail>
     requires { IsValidWorkload workload.now }
 {
-    let layout = &workload.layout;
-    let style = Style::of(workload.version, false);
-    let (table, _founder, mut caller) = open_table(alloc, engine, layout)?;
-    let [first, second] = workload.jobs.as_slice() else {
-        return Err(Fail::new("two jobs"));
-    };
-    let OnlyTried::Blocked = try_alone(style, &mut caller, &table, layout, first) else {
-        return Err(Fail::new("not blocked"));
-    };
-    let Some(number) = give_up(&mut caller, &table) else {
-        return Err(Fail::new("spent"));
-    };
-    match try_alone(style, &mut caller, &table, layout, second) {
-        OnlyTried::Done(finished) => Ok((number, finished)),
-        _ => Err(Fail::new("not done")),
-    }
+    let (table, _founder, mut caller) = open_table(alloc, engine, &workload.layout)?;
+    give_up_one(&mut caller, &table, workload)
 }

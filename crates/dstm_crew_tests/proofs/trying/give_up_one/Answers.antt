@@ -7,7 +7,7 @@ use Rattle.dstm_workload.specs.Workload.{IsJob, IsValidWorkload}
 use Rattle.dstm_jobs.specs.declared.style.Style.{Style}
 use Rattle.dstm_jobs.specs.Styles.{CanTry, style_of}
 use Rattle.dstm_crew.proofs.Worked.{can_try}
-use Rattle.dstm_crew_tests.proofs.trying.give_up_first.Goals as goal
+use Rattle.dstm_crew_tests.proofs.trying.give_up_one.Goals as goal
 
 job_can : (workload : Workload) (style : Style) (jobs : List Job) (i : ℕ) (job : Job) → IsValidWorkload workload →
     style ≡ style_of workload.version false → jobs ≡ workload.jobs → i < length jobs → job ≡ get_or jobs i job →
@@ -21,9 +21,9 @@ job_can workload style jobs i job valid styled same inside is =
 pub try_alone-requires-clause-can : goal.try_alone-requires-clause-can
 try_alone-requires-clause-can c =
     job_can c.args.workload.now c.of-style.result c.as_slice.result.now 0 c.first-item.result
-    c.requires c.of-style.ensures c.as_slice.ensures (omega arith) c.first-item.is
+    c.requires.valid c.of-style.ensures c.as_slice.ensures (omega arith) c.first-item.is
 
 pub try_alone-requires-2-clause-can : goal.try_alone-requires-2-clause-can
 try_alone-requires-2-clause-can c =
     job_can c.args.workload.now c.of-style.result c.as_slice.result.now 1 c.second-item.result
-    c.requires c.of-style.ensures c.as_slice.ensures (omega arith) c.second-item.is
+    c.requires.valid c.of-style.ensures c.as_slice.ensures (omega arith) c.second-item.is

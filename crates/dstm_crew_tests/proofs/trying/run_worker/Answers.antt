@@ -1,7 +1,4 @@
 use Rattle.std.proofs.Common.{◌≡◌, ◌∙◌, ◌<◌, All, List, ap, arith, length, refl, subst, sym}
-use Rattle.dstm_model.specs.declared.layout.Layout.{Layout}
-use Rattle.dstm_model.specs.declared.value.Val.{Val}
-use Rattle.dstm_store.specs.Whole.{IsLawful}
 use Rattle.dstm_store.specs.declared.law.StoreLaw.{StoreLaw}
 use Rattle.dstm_tables.specs.Callers.{home_of, law_of}
 use Rattle.dstm_tables.specs.Tables.{law_there}
@@ -35,12 +32,8 @@ law_at_home : (k : Caller) → law_there (home_of k) ≡ law_of k
 law_at_home (Dstm k) = refl
 law_at_home (Tl2 k) = refl
 
-pub read_state-requires-clause-lawful : goal.read_state-requires-clause-lawful
-read_state-requires-clause-lawful c =
-    let layout = c.args.workload.now.layout in
+pub bank_of_table-requires-clause-law : goal.bank_of_table-requires-clause-law
+bank_of_table-requires-clause-law c =
     let opened = c.in_ok-table.ensures in
-    let same : (law_there c.in_ok-table.table).layout ≡ layout =
     ap (λ (t : Table). (law_there t).layout) (sym opened.home)
-    ∙ ap (λ (law : StoreLaw). law.layout) (law_at_home c.in_ok-table.caller) ∙ opened.law in
-    subst (λ (vs : List Val). IsLawful layout vs) (sym c.deref.ensures.value)
-    (subst (λ (l : Layout). IsLawful l c.in_ok-values.values.items) same c.in_ok-values.ensures.lawful)
+    ∙ ap (λ (law : StoreLaw). law.layout) (law_at_home c.in_ok-table.caller) ∙ opened.law
