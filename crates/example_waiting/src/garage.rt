@@ -1,11 +1,9 @@
 // A garage that cars enter where it has a place, and else are refused.
 use dstm_cells::{Cell, Failed, Memory, Stop, Tx, ensure};
-use std::alloc::Global;
 use std::thread::Threads;
 
 /// Three threads bring fifty cars each. This answers how many are in, and how many were refused.
-pub fn fill<R: Threads + Sync>(rt: &R, alloc: Global) -> Result<(u64, u64), Failed> {
-    let mut memory = Memory::new(alloc);
+pub fn fill<R: Threads + Sync>(rt: &R, memory: &mut Memory) -> Result<(u64, u64), Failed> {
     let cars = memory.cell(0u64)?;
     let refused = memory.cell(0u64)?;
     memory.run(rt, 3, |me, _| {

@@ -2,7 +2,6 @@
 // stock. An order is taken from the queue, from the stock and to what is sold in one transaction.
 use dstm_cells::{Failed, Memory};
 use dstm_structures::{HashMap, Queue};
-use std::alloc::Global;
 use std::thread::Threads;
 
 /// The articles, of each of which there are a thousand pieces.
@@ -12,11 +11,10 @@ const ARTICLES: u64 = 50;
 const ORDERS: u64 = 2_000;
 
 /// All orders are taken and packed. This answers how many pieces are packed, and how many are left.
-pub fn pack_all<R: Threads + Sync>(rt: &R, alloc: Global) -> Result<(u64, u64), Failed> {
-    let mut memory = Memory::new(alloc);
-    let orders: Queue<(u64, u64)> = Queue::new(&mut memory, 16)?;
-    let stock: HashMap<u64> = HashMap::new(&mut memory, 64)?;
-    let sold: HashMap<u64> = HashMap::new(&mut memory, 64)?;
+pub fn pack_all<R: Threads + Sync>(rt: &R, memory: &mut Memory) -> Result<(u64, u64), Failed> {
+    let orders: Queue<(u64, u64)> = Queue::new(memory, 16)?;
+    let stock: HashMap<u64> = HashMap::new(memory, 64)?;
+    let sold: HashMap<u64> = HashMap::new(memory, 64)?;
     let packed = memory.cell(0u64)?;
     let left = memory.cell(0u64)?;
     memory.run(rt, 1, |me, _| {

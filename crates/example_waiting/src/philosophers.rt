@@ -3,8 +3,11 @@ use dstm_cells::{Cell, Failed, Memory, Stop, Tx};
 use std::thread::Threads;
 
 /// Each eats so often. This answers how many meals there were and how many forks are held in the end.
-pub fn dine<R: Threads + Sync>(rt: &R, memory: Memory, often: u32) -> Result<(u64, usize), Failed> {
-    let mut memory = memory;
+pub fn dine<R: Threads + Sync>(
+    rt: &R,
+    memory: &mut Memory,
+    often: u32,
+) -> Result<(u64, usize), Failed> {
     let mut forks = [memory.cell(false)?; 5];
     for fork in &mut forks {
         *fork = memory.cell(false)?;

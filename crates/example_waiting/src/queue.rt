@@ -6,9 +6,8 @@ use std::thread::Threads;
 const ROOM: u32 = 8;
 
 /// Each of two producers passes the numbers from 1 to this one to two consumers, which add them up.
-pub fn pass_all<R: Threads + Sync>(rt: &R, memory: Memory, most: u32) -> Result<u64, Failed> {
-    let mut memory = memory;
-    let queue = Queue::new(&mut memory)?;
+pub fn pass_all<R: Threads + Sync>(rt: &R, memory: &mut Memory, most: u32) -> Result<u64, Failed> {
+    let queue = Queue::new(memory)?;
     let sum = memory.cell(0u64)?;
     memory.run(rt, 4, |me, number| {
         for item in 1..=u64::from(most) {

@@ -1,7 +1,6 @@
 // A room that four threads warm, and a type of its own that a cell holds.
 use dstm_cells::{Failed, Memory, Word};
 use dstm_model::Val;
-use std::alloc::Global;
 use std::thread::Threads;
 
 /// How warm it is.
@@ -27,8 +26,7 @@ impl Word for Celsius {
 
 /// Four threads warm a room, each five hundred times, and each notes the warmest that it has seen. This answers the
 /// warmest of all.
-pub fn warm<R: Threads + Sync>(rt: &R, alloc: Global) -> Result<u64, Failed> {
-    let mut memory = Memory::new(alloc);
+pub fn warm<R: Threads + Sync>(rt: &R, memory: &mut Memory) -> Result<u64, Failed> {
     let room = memory.cell(Celsius { degrees: 20 })?;
     let warmest = memory.cells(0u64, 4)?;
     memory.run(rt, 4, |me, number| {
