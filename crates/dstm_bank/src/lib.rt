@@ -5,8 +5,7 @@
 ghost use Rattle.std.specs.Prelude.{◌≡◌, ◌≢◌, ◌⊎◌, ℕ, ◌<◌, IsSome, IfOk, OnOk};
 ghost use Rattle.dstm_model.specs.Layout.{IsValid, FitsLayout};
 ghost use Rattle.dstm_model.specs.Objects.{objects_of, IsBank};
-ghost use Rattle.dstm_mem.specs.Operations.{IsReady};
-ghost use Rattle.dstm_mem.specs.Operates.{Applies};
+ghost use Rattle.dstm_mem.specs.Operates.{Applies, IsReady};
 
 use dstm_mem::Mem;
 use dstm_model::{Layout, Op, Reply, Val};

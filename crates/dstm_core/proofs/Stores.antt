@@ -171,13 +171,8 @@ low_part = record {
       let x = in_attempt no_more (λ b. omega arith) l.phase l (λ z. let i = a.2.0 in cc) in
       let n = numbered-get _ l.writes l.written t.numbered lt in let y = t.count in let z = t.installed in
       (a.0 ∙ ap (λ m. place s (LowWord m)) (omega arith), omega arith, omega arith);
-  only = only;
+  only = λ s l e m k q h. grind arith;
 }
-  where
-    only : (s : Shape) (l : LocalState) (e : Event) (m : ℕ) (k : Kind) → target k s l e ≡ LowWord m →
-        not (is_load (access k s l e)) ≡ true → k ≡ PutNew
-    only s l e m PutNew q h = refl
-    only s l e m k q h = absurd (grind arith)
 
 high_part : Part one_if PutHigh HighWord
 high_part = record {
@@ -188,13 +183,8 @@ high_part = record {
       let o : one_if l.high_put ≡ 0 = ap one_if a.2.3 in
       let n = numbered-get _ l.writes l.written t.numbered lt in let y = t.count in let z = t.installed in
       (a.0 ∙ ap (λ m. place s (HighWord m)) (omega arith), omega arith, omega arith);
-  only = only;
+  only = λ s l e m k q h. grind arith;
 }
-  where
-    only : (s : Shape) (l : LocalState) (e : Event) (m : ℕ) (k : Kind) → target k s l e ≡ HighWord m →
-        not (is_load (access k s l e)) ≡ true → k ≡ PutHigh
-    only s l e m PutHigh q h = refl
-    only s l e m k q h = absurd (grind arith)
 
 module _ {extra : Bool → ℕ} {k : Kind} {w : ℕ → Word} (part : Part extra k w) (s : Shape) where
   part_puts : (es : List Event) (e : Event) → Core s (e ∷ es) → e.kind ≡ k → Puts s es e (counted extra) w

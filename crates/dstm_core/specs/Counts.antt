@@ -1,6 +1,7 @@
 -- What a caller's own events count: its attempts begun, and its locators installed.
-use Rattle.std.specs.Prelude.{ℕ, ◌==◌, ◌&&◌, Bool, true, false, List, count_by}
+use Rattle.std.specs.Prelude.{ℕ, ◌==◌, ◌&&◌, Bool, true, false, List, [], ◌∷◌, count_by}
 use Rattle.dstm_core.specs.Events.{Event}
+use Rattle.dstm_core.specs.Kinds.{is_one_of}
 use Rattle.dstm_core.specs.Traces.{events_of}
 use Rattle.dstm_core.specs.declared.event.Kind.{Kind}
 use Rattle.dstm_core.specs.declared.event.Kind.TheVariants.{Begin, Install}
@@ -9,10 +10,6 @@ abbrev pub is_begin : Kind → Bool
 is_begin Begin = true
 is_begin kind = false
 
-abbrev pub is_install : Kind → Bool
-is_install Install = true
-is_install kind = false
-
 -- how many attempts caller c began in a trace
 abbrev pub begin_count : ℕ → List Event → ℕ
 begin_count c trace = count_by (λ (event : Event). is_begin event.kind) (events_of c trace)
@@ -20,4 +17,4 @@ begin_count c trace = count_by (λ (event : Event). is_begin event.kind) (events
 -- how many of its Installs succeeded
 abbrev pub install_count : ℕ → List Event → ℕ
 install_count c trace =
-    count_by (λ (event : Event). is_install event.kind && (event.found == event.expected)) (events_of c trace)
+    count_by (λ (event : Event). is_one_of (Install ∷ []) event.kind && (event.found == event.expected)) (events_of c trace)

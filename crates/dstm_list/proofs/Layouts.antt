@@ -3,6 +3,7 @@ use Rattle.std.proofs.Common.{◌≡◌, ◌≢◌, ℕ, ◌<◌, ◌==◌, Bool
 use Rattle.std.specs.Prelude.{Ok, if◌then◌else◌}
 use Rattle.dstm_model.specs.declared.value.Val.{Val}
 use Rattle.dstm_model.specs.declared.layout.Layout.{Layout}
+use Rattle.dstm_model.specs.declared.op.Op.{Op}
 use Rattle.dstm_model.specs.declared.op.Which.TheVariants as which
 use Rattle.dstm_model.specs.declared.op.Op.TheVariants.{Insert, Remove, Member}
 use Rattle.dstm_model.specs.declared.reply.Reply.{Reply}
@@ -13,7 +14,7 @@ use Rattle.dstm_model.specs.Objects.{objects_of, Does}
 use Rattle.dstm_model.specs.Store.{Store, Outcome, answer, has_key, with_key, opening_store}
 use Rattle.dstm_mem.specs.declared.memory.Mem.{Ghosts}
 use Rattle.dstm_mem.specs.Operations.{IsReady}
-use Rattle.dstm_mem.specs.Operates.{Applies, Operates}
+use Rattle.dstm_mem.specs.Operates.{Applies, IsLook, Operates}
 use Rattle.dstm_mem.proofs.Operating.{operates-as}
 use Rattle.dstm_region.specs.declared.region.Region.{Region}
 use Rattle.dstm_region.specs.Region.{IsInside, list_region}
@@ -98,31 +99,40 @@ module _ {layout : Layout} {before after : List Val} where
 
 -- ---- a call on the region of a layout's list
 
+-- a change of the region's list is one of the layout's
+abbrev pub IsOne : {S E : Type 0} → Ghosts S E → Region → Layout → Op → (Region → Reply → List Val → List Val → Type 0) →
+    Reply → S → S → Type 0
+IsOne M region layout op R reply old new =
+    region ≡ list_region layout → 0 < layout.list → Calls M region (λ r. r ≢ Yes) (R region) old new (Ok reply) →
+    SameButThree region (M.written old) (M.written new) →
+    Applies M (IsOfList layout) (IsList layout) op old new (Ok reply)
+    × SameButThree (list_region layout) (M.written old) (M.written new)
+
 module _ {S E : Type 0} {M : Ghosts S E} {region : Region} where
   -- what it asks
   pub starts : {layout : Layout} {memory : S} → region ≡ list_region layout → IsValid layout → 0 < layout.list →
       IsReady M (objects_of layout) (IsList layout) memory → FitsList region × IsReadyIn M region memory
   starts {layout = layout} is valid declared ready = rw is (fits-list valid declared, ready-in layout declared ready)
 
-  pub adds : (layout : Layout) (key : ℕ) {reply : Reply} {old new : S} → region ≡ list_region layout → 0 < layout.list →
-      Calls M region (λ r. r ≢ Yes) (Adds region key) old new (Ok reply) →
-      SameButThree region (M.written old) (M.written new) →
-      Applies M (IsOfList layout) (IsList layout) (Insert which.List key) old new (Ok reply)
-      × SameButThree (list_region layout) (M.written old) (M.written new)
-  adds layout key is declared done few = (
-    done-in layout is declared done (λ look. look) (λ before after h. inserted key (rw is at h)),
+  is_one : (layout : Layout) (op : Op) (R : Region → Reply → List Val → List Val → Type 0) (reply : Reply) (old new : S) →
+      (IsLook op reply → reply ≢ Yes) → ((before after : List Val) → R (list_region layout) reply before after →
+      Does (IsList layout) op before after reply) → IsOne M region layout op R reply old new
+  is_one layout op R reply old new look does is declared done few = (
+    done-in layout is declared done look (λ before after h. does before after (rw is at h)),
     rw is at few,
   )
 
-  pub takes : (layout : Layout) (key : ℕ) {reply : Reply} {old new : S} → region ≡ list_region layout → 0 < layout.list →
-      Calls M region (λ r. r ≢ Yes) (TakesOut region key) old new (Ok reply) →
-      SameButThree region (M.written old) (M.written new) →
-      Applies M (IsOfList layout) (IsList layout) (Remove which.List key) old new (Ok reply)
-      × SameButThree (list_region layout) (M.written old) (M.written new)
-  takes layout key is declared done few = (
-    done-in layout is declared done (λ look. look) (λ before after h. removed key (rw is at h)),
-    rw is at few,
-  )
+  pub adds : (layout : Layout) (key : ℕ) {reply : Reply} {old new : S} →
+      IsOne M region layout (Insert which.List key) (λ region. Adds region key) reply old new
+  adds layout key {reply = reply} {old = old} {new = new} =
+      is_one layout (Insert which.List key) (λ region. Adds region key) reply old new (λ look. look)
+      (λ before after. inserted key)
+
+  pub takes : (layout : Layout) (key : ℕ) {reply : Reply} {old new : S} →
+      IsOne M region layout (Remove which.List key) (λ region. TakesOut region key) reply old new
+  takes layout key {reply = reply} {old = old} {new = new} =
+      is_one layout (Remove which.List key) (λ region. TakesOut region key) reply old new (λ look. look)
+      (λ before after. removed key)
 
   pub tells : (layout : Layout) (key : ℕ) {reply : Reply} {old new : S} → region ≡ list_region layout → 0 < layout.list →
       Calls M region (λ r. Unit {0}) (Tells region key) old new (Ok reply) →

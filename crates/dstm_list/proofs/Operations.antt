@@ -23,7 +23,7 @@ use Rattle.dstm_list.specs.Place.{Finds, IsPlace, IsFirst, AllLess, AllGreater, 
 use Rattle.dstm_list.proofs.Keys.{Rise, increasing-of_Rise, Rise-insert, Rise-remove, has_key-behind, has_key-greater}
 use Rattle.dstm_list.proofs.Keys.{has_key-first, with_key-between, without_key-first, without_key-absent}
 use Rattle.dstm_list.proofs.Numbers.{IsNumber, as_many, split-used, split-free, within, each-right}
-use Rattle.dstm_list.proofs.Objects.{Changed-of_sets, Kept-of_same, objects_apart, relinked, IsChain-same}
+use Rattle.dstm_list.proofs.Objects.{Apart, Changed-of_sets, Kept-of_same, objects_apart, relinked, IsChain-same}
 use Rattle.dstm_list.proofs.Objects.{IsFreeChain-same}
 use Rattle.dstm_list.proofs.Steps.{IsChain-right, rise_of, used_within, first_within, node-of_list}
 
@@ -165,6 +165,21 @@ with_node values begin i key next link last rest =
     slice_set (slice_set (slice_set values (node_object begin i) (node key next)) (free_object begin) rest) link
     (node last i)
 
+-- the three objects that a change sets, where the list is cut at node i, are the region's and differ
+record IsCut (region : Region) (i : ℕ) (behind : List Cell) : Type 0 where
+  node_in : IsInside region (node_object region.first i)
+  free_in : IsInside region (node_object region.first 0)
+  differ : Apart (node_object region.first i) (free_object region.first) (link_after region.first region.first behind)
+
+cut_at : (region : Region) (i : ℕ) (behind ahead : List Cell) (free : List ℕ) → 0 < region.nodes →
+    IsPermutation (nodes_to region.nodes) (i ∷ (numbers_of behind ++ (numbers_of ahead ++ free))) → IsCut region i behind
+cut_at region i behind ahead free declared once = record {
+  node_in = node-of_list region i declared
+      (within region.nodes (i ∷ (numbers_of behind ++ (numbers_of ahead ++ free))) once).0.1;
+  free_in = node-of_list region 0 declared (omega arith);
+  differ = objects_apart region.nodes region.first i behind ahead free once;
+}
+
 inserted : {region : Region} {values : List Val} {held : List ℕ} (c : Cell) (behind ahead : List Cell)
     (free : List ℕ) (link : ℕ) (rest : Val) → 0 < region.nodes → region.first + size_of region ≤ length values →
     Parts region values held (behind ++ ahead) (c.number ∷ free) → AllLess c.key behind → AllGreater c.key ahead →
@@ -174,20 +189,16 @@ inserted : {region : Region} {values : List Val} {held : List ℕ} (c : Cell) (b
     (with_key c.key held) (behind ++ c ∷ ahead) free
 inserted {region} {values} {held} c behind ahead free link rest declared in_map parts less greater is_link link_in
     had =
-    let n = region.nodes in
     let begin = region.first in
     let i = c.number in
     let once = IsPermutation-trans _ _ _ parts.once (split-free behind ahead i free) in
-    let number_in = (within n (i ∷ (numbers_of behind ++ (numbers_of ahead ++ free))) once).0.1 in
-    let differ = objects_apart n begin i behind ahead free once in
-    let node_in = node-of_list region i declared number_in in
-    let free_in = node-of_list region 0 declared (omega arith) in
+    let cut = cut_at region i behind ahead free declared once in
     let changed = Changed-of_sets values (node_object begin i) (free_object begin) link
     (node c.key (first_of (numbers_of ahead))) rest (node (key_after 0 behind) i)
-    (omega (arith, node_in.1, in_map)) (omega (arith, free_in.1, in_map)) (omega (arith, link_in.1, in_map))
-    differ.first_second (λ e. differ.first_third (e ∙ is_link)) (λ e. differ.second_third (e ∙ is_link)) in
+    (omega (arith, cut.node_in.1, in_map)) (omega (arith, cut.free_in.1, in_map)) (omega (arith, link_in.1, in_map))
+    cut.differ.first_second (λ e. cut.differ.first_third (e ∙ is_link)) (λ e. cut.differ.second_third (e ∙ is_link)) in
     let after = with_node values begin i c.key (first_of (numbers_of ahead)) link (key_after 0 behind) rest in
-    let kept = Kept-of_same n begin i values after behind ahead free once
+    let kept = Kept-of_same region.nodes begin i values after behind ahead free once
     (λ p px py pz. changed.same p px py (λ e. pz (e ∙ is_link))) in
     let linked = relinked begin values after behind ahead (c ∷ ahead) begin 0 parts.head parts.chain kept.before
     (ap (value_at after) (sym is_link) ∙ changed.third_is) (
@@ -248,21 +259,17 @@ removed : {region : Region} {values : List Val} {held : List ℕ} (c : Cell) (be
     (without_key c.key held) (behind ++ ahead) (c.number ∷ free)
 removed {region} {values} {held} c behind ahead {free = free} link rest declared in_map parts less is_link link_in
     had =
-    let n = region.nodes in
     let begin = region.first in
     let i = c.number in
     let once = IsPermutation-trans _ _ _ parts.once (split-used behind c ahead free) in
-    let number_in = (within n (i ∷ (numbers_of behind ++ (numbers_of ahead ++ free))) once).0.1 in
-    let differ = objects_apart n begin i behind ahead free once in
-    let node_in = node-of_list region i declared number_in in
-    let free_in = node-of_list region 0 declared (omega arith) in
+    let cut = cut_at region i behind ahead free declared once in
     let changed = Changed-of_sets values (free_object begin) (node_object begin i) link
     (node 0 i) rest (node (key_after 0 behind) (first_of (numbers_of ahead)))
-    (omega (arith, free_in.1, in_map)) (omega (arith, node_in.1, in_map)) (omega (arith, link_in.1, in_map))
-    (λ e. differ.first_second (sym e)) (λ e. differ.second_third (e ∙ is_link))
-    (λ e. differ.first_third (e ∙ is_link)) in
+    (omega (arith, cut.free_in.1, in_map)) (omega (arith, cut.node_in.1, in_map)) (omega (arith, link_in.1, in_map))
+    (λ e. cut.differ.first_second (sym e)) (λ e. cut.differ.second_third (e ∙ is_link))
+    (λ e. cut.differ.first_third (e ∙ is_link)) in
     let after = without_node values begin i (first_of (numbers_of ahead)) link (key_after 0 behind) rest in
-    let kept = Kept-of_same n begin i values after behind ahead free once
+    let kept = Kept-of_same region.nodes begin i values after behind ahead free once
     (λ p px py pz. changed.same p py px (λ e. pz (e ∙ is_link))) in
     let chain = IsChain-right begin values behind (c ∷ ahead) parts.chain in
     let linked = relinked begin values after behind (c ∷ ahead) ahead begin 0 parts.head parts.chain kept.before

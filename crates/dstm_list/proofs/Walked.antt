@@ -1,6 +1,6 @@
 -- A walk along the list, and an operation whose first part is one.
-use Rattle.std.proofs.Common.{◌≡◌, ◌≢◌, ◌≤◌, ℕ, ◌+◌, List, refl, sym, ◌∙◌, ap, subst, slice_set}
-use Rattle.std.specs.Prelude.{Ok, is_some}
+use Rattle.std.proofs.Common.{◌≡◌, ◌≢◌, ◌≤◌, ℕ, ◌+◌, IsTrue, List, arith, length, refl, sym, ◌∙◌, ap, subst, slice_set}
+use Rattle.std.specs.Prelude.{Ok, Option, is_some}
 use Rattle.dstm_model.specs.declared.value.Val.{Val}
 use Rattle.dstm_model.specs.declared.reply.Reply.{Reply}
 use Rattle.dstm_model.specs.Store.{yes_or_no}
@@ -9,9 +9,9 @@ use Rattle.dstm_mem.specs.declared.memory.Mem.{Ghosts}
 use Rattle.dstm_mem.specs.Memory.{with_set}
 use Rattle.dstm_mem.specs.Operations.{Leads, OnlyReads}
 use Rattle.dstm_mem.specs.Operates.{Operates}
-use Rattle.dstm_mem.proofs.Operations.{leads-answers, opens_to_set-of_reads}
-use Rattle.dstm_mem.proofs.Operating.{Through, operates-as, operates-then}
-use Rattle.dstm_mem.proofs.WithSet.{with_set-same}
+use Rattle.dstm_mem.proofs.Operations.{leads-answers, leads-none, only_reads-none, opens_to_set-none, opens_to_set-of_reads}
+use Rattle.dstm_mem.proofs.Operating.{Through, operates-as, operates-then, untouched-none}
+use Rattle.dstm_mem.proofs.WithSet.{length-with_set, with_set-same}
 use Rattle.dstm_region.specs.declared.region.Region.{Region}
 use Rattle.dstm_region.specs.Region.{IsInside, size_of}
 use Rattle.dstm_list.specs.declared.node.Node.{Node}
@@ -29,6 +29,11 @@ pub record Reaches (region : Region) (key link : ℕ) (before : Node) (start now
   pub same : now ≡ start
   pub stands : (held : List ℕ) (list : HasKeys region start held) →
       Stands region.first key link before list.cells
+
+-- the region is in a map of the memory's objects, with what was set
+pub inside_map : (region : Region) (map : List Val) (sets : ℕ → Option Val) {objects : ℕ} → length map ≡ objects →
+    region.first + size_of region ≤ objects → region.first + size_of region ≤ length (with_set map sets)
+inside_map region map sets all fits = omega (arith, fits, all, length-with_set map sets)
 
 -- the node that is seen next is that of the next cell
 pub next-seen : {region : Region} {key link object : ℕ} {before next : Node} {start now : List Val} →
@@ -56,6 +61,20 @@ operates-at {M = M} done quiet marks does = record {
   marks = λ all. done.marks (marks all);
   quiet = λ look. done.quiet (quiet look);
   does = λ map admitted. does map (done.leads.narrows map admitted) (done.does map admitted);
+}
+
+-- an operation that did nothing, of which this holds on each map that is admitted
+pub operates-still : {S E : Type 0} {M : Ghosts S E} {In : ℕ → Type 0} {A : Type 0} {Q T : A → Type 0}
+    {R : A → List Val → List Val → Type 0} {old : S} {x : A} → ((map : List Val) × M.Admits old map) →
+    IsTrue (M.is_live old) →
+    ((map : List Val) → M.Admits old map → R x (with_set map (M.written old)) (with_set map (M.written old))) →
+    Operates M In Q T R old old (Ok x)
+operates-still {M = M} {old = old} {x = x} admits live does = record {
+  leads = leads-none M old x admits live;
+  outside = λ o out. untouched-none M old o;
+  marks = λ all. opens_to_set-none M old;
+  quiet = λ look. only_reads-none M old;
+  does = does;
 }
 
 -- ---- after it

@@ -2,8 +2,7 @@ ghost use Rattle.std.specs.Prelude.{◌≡◌, ◌<◌, OnOk};
 ghost use Rattle.dstm_model.specs.declared.op.Which.TheVariants as which;
 ghost use Rattle.dstm_model.specs.Layout.{IsValid, FitsLayout};
 ghost use Rattle.dstm_model.specs.Objects.{objects_of, list_begin, node_object};
-ghost use Rattle.dstm_mem.specs.Operations.{IsReady};
-ghost use Rattle.dstm_mem.specs.Operates.{Applies};
+ghost use Rattle.dstm_mem.specs.Operates.{Applies, IsReady};
 ghost use Rattle.dstm_region.specs.Region.{list_region};
 ghost use Rattle.dstm_list.specs.List.{IsList, IsOfList, SameButThree};
 

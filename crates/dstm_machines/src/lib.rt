@@ -10,6 +10,3 @@ mod machine;
 
 pub use event::Event;
 pub use machine::Machine;
-
-#[cfg(test)]
-mod tests;

@@ -5,12 +5,14 @@ use Rattle.std.specs.List.{position_or_len}
 use Rattle.std.proofs.Math.Seq.{get_or-append_seam}
 use Rattle.std.proofs.lemmas.Bool.{and_from, and_parts, cases_eq, cases_lt, eq-eqb, eqb-true, ne_eqb}
 use Rattle.std.proofs.lemmas.List.{get_or_append_left, get_or_default, get_or-set_other, get_or-set_same, length-set}
+use Rattle.std.proofs.lemmas.Option.{slice_get-get_or}
 use Rattle.std.proofs.lemmas.List.Elements.{All-filter, filter_passes}
 use Rattle.std.proofs.lemmas.List.Kept.{AllPairs-filter}
 use Rattle.std.proofs.lemmas.List.Sums.{fails_before_first, passes_at_first}
 use Rattle.dstm_mem.proofs.Few.{few_named}
 use Rattle.dstm_mem.proofs.Finding.{find_filter, find_none, find_one}
-use Rattle.dstm_mem.specs.Slots.{ArePlaced, IsSlotOf, Sort, slot_at}
+use Rattle.dstm_mem.specs.Slots.{ArePlaced, ArePlacedBy, IsSlotOf, Sort, no_place, place_at, slot_at, slot_in}
+use Rattle.dstm_mem.specs.declared.places.Place.{Place}
 
 module _ {T : Type 0} {sort : Sort T} {slots : List T} {objects : ℕ} {place : ℕ → ℕ}
     (p : ArePlaced sort slots objects place) where
@@ -64,6 +66,19 @@ module _ {T : Type 0} {sort : Sort T} {slots : List T} {objects : ℕ} {place : 
         (eq-eqb (sort.object (slot_at sort slots (n - 1))) o r.object))
         (λ i lt q. only o (n - 1) i r (slot_is i lt q))
         ∙ ap Some (get_or_default slots (n - 1) sort.none s r.within ∙ sym found)
+
+    -- so the slot there is the object's, where it has one
+    pub looked : slot_in slots n ≡ find (λ s. sort.counts s && (sort.object s == o)) slots
+    looked = by (cases_eq n 0)
+      where
+        by : (n ≡ 0) ⊎ (n ≡ 0 → ⊥) → slot_in slots n ≡ find (λ s. sort.counts s && (sort.object s == o)) slots
+        by (inl none) = ap (slot_in slots) none ∙ sym (finds_none none)
+        by (inr some) =
+            let lt = (stands_there some).within in
+            let there : slot_in slots n ≡ Some (slot_at sort slots (n - 1)) =
+            rw (ne_eqb n 0 some) (slice_get-get_or slots (n - 1) sort.none lt) in
+            there
+            ∙ sym (finds_one some (slot_at sort slots (n - 1)) (get_or_default slots (n - 1) sort.none (slot_at sort slots (n - 1)) lt))
 
     -- an object that has none has no place
     pub unplaced : find (λ s. sort.counts s && (sort.object s == o)) slots ≡ None → n ≡ 0
@@ -324,3 +339,26 @@ module _ {P : Type 0} (places : List P) (none : P) (o : ℕ) (q : P) (below : o 
       by (inl same) = ap (λ k. part (slice_index_or (slice_set places o q) k none)) same ∙ part_here ∙ is
           ∙ ap (λ k. part (slice_index_or places k none)) (sym same)
       by (inr other) = part_other x other
+
+-- ---- places of which one is changed
+
+-- the place that a call has found
+pub place_is : (places : List Place) (o : ℕ) → o < length places → (place : Place) →
+    place ≡ slice_index_or places o place → place_at places o ≡ place
+place_is places o below place found = get_or_default places o no_place place below ∙ sym found
+
+module _ (part : Place → ℕ) (places : List Place) {T : Type 0} {sort : Sort T} {slots : List T}
+    (p : ArePlacedBy part sort slots places) where
+  -- a slot more, with its place
+  pub pushed : (s : T) → sort.object s < length places → sort.counts s ≡ true → part (place_at places (sort.object s)) ≡ 0 →
+      (q : Place) → part q ≡ length slots + 1 → ArePlacedBy part sort (slots ++ s ∷ []) (slice_set places (sort.object s) q)
+  pushed s below counts none q is =
+      placed_alike (one_more p s below counts none (λ o. part (place_at (slice_set places (sort.object s) q) o))
+      (part_here places no_place (sort.object s) q below part ∙ is) (part_other places no_place (sort.object s) q below part))
+      _ _ (length-set places (sort.object s) q) (λ o. refl)
+
+  -- a change on the other side
+  pub beside : (o : ℕ) → o < length places → (q : Place) → part q ≡ part (place_at places o) →
+      ArePlacedBy part sort slots (slice_set places o q)
+  beside o below q is =
+      placed_alike p _ _ (length-set places o q) (part_kept places no_place o q below part is)

@@ -10,6 +10,7 @@ use Rattle.dstm_model.specs.Store.{Store}
 use Rattle.dstm_model.specs.Objects.{Does}
 use Rattle.dstm_mem.specs.declared.memory.Mem.{Ghosts}
 use Rattle.dstm_mem.specs.Memory.{with_set}
+pub use Rattle.dstm_mem.specs.Operations.{IsReady}
 use Rattle.dstm_mem.specs.Operations.{Leads, OnlyReads, OpensToSet}
 
 -- object o is set, held and opened for writing as before

@@ -5,11 +5,13 @@
 mod body;
 mod flat;
 mod memory;
+mod places;
 mod release;
 mod size;
 
 pub use body::Body;
 pub use flat::{FlatMem, Never};
 pub use memory::Mem;
+pub use places::{Place, Slot, forget, look, push};
 pub use release::{LooseBody, Release, admits_what_it_holds};
 pub use size::OfSize;

@@ -5,6 +5,7 @@
 mod answers;
 mod job;
 mod layout;
+mod listed;
 mod op;
 mod reply;
 mod state;
@@ -16,6 +17,7 @@ pub use job::{Ops, Replies};
 pub use layout::{
     AMOUNT_LIMIT, KEY_LIMIT, Layout, MAX_ACCOUNTS, MAX_LIST_NODES, MAX_OPENING, MAX_TREE_NODES,
 };
+pub use listed::{Few, Listed};
 pub use op::{Cond, Op, Which};
 pub use reply::Reply;
 pub use state::{Item, Items, Numbers, State};

@@ -80,11 +80,8 @@ module _ (v : ℕ → Val) where
       new : LocalState
       new = state_after s l (e ∷ es)
 
-      t : is_test k ≡ true
-      t = drawn_test k new.phase here
-
       on : GoesOn (Committing v) s (Some e) new (effort_of s l g (e ∷ es)) (Step k n)
-      on = goes_on (Committing v) s (Some e) new (effort_of s l g (e ∷ es)) was (test_goes k n t)
+      on = goes_on (Committing v) s (Some e) new (effort_of s l g (e ∷ es)) was (test_goes k n (drawn_test k new.phase here))
 
       row_at : (j : Kind) → e.kind ≡ j → next e.kind e (Committing v) s.manager new (effort_of s l g (e ∷ es))
           ≡ next j e (Committing v) s.manager new (effort_of s l g (e ∷ es))
@@ -113,7 +110,7 @@ module _ (v : ℕ → Val) where
           let is : new ≡ after Draw s old e = ap (λ k. after k s old e) q in
           chain_none Commit (λ (l : LocalState). l.drawn) s l (Committing v) g e es q
           (ap (λ (l : LocalState). l.checked) is) (ap (λ (l : LocalState). l.drawn) is) (row_at Draw q)
-      go back (inr (inr (inr none))) = absurd (no_test k n t on.table none)
+      go back (inr (inr (inr none))) = absurd (no_test k n (drawn_test k new.phase here) on.table none)
 
 pub every_commit : EveryCommitIsValidated
 every_commit v s l g e es obeys q =

@@ -258,11 +258,8 @@ pass_back w s l g (e ∷ es) k n obeys was here =
     new : LocalState
     new = state_after s l (e ∷ es)
 
-    t : is_test k ≡ true
-    t = in_pass_test k new.phase here
-
     on : GoesOn w s (Some e) new (effort_of s l g (e ∷ es)) (Step k n)
-    on = goes_on w s (Some e) new (effort_of s l g (e ∷ es)) was (test_goes k n t)
+    on = goes_on w s (Some e) new (effort_of s l g (e ∷ es)) was (test_goes k n (in_pass_test k new.phase here))
 
     row_at : (j : Kind) → e.kind ≡ j →
         next e.kind e w s.manager new (effort_of s l g (e ∷ es)) ≡ next j e w s.manager new (effort_of s l g (e ∷ es))
@@ -295,7 +292,7 @@ pass_back w s l g (e ∷ es) k n obeys was here =
         draws : InPass k new.phase → in_checking new ≡ Step k n → new.phase ≡ Drawn → ⊥
         draws (inl x) r d = checking_by (λ d. d ≡ Step k n → ⊥) new (λ y. cc) (λ y. cc) r
         draws (inr x) r d = x.1 d
-    go back (inr (inr (inr none))) = absurd (no_test k n t on.table none)
+    go back (inr (inr (inr none))) = absurd (no_test k n (in_pass_test k new.phase here) on.table none)
 
 pub every_pass : EveryPassIsComplete
 every_pass w s l g e es obeys q =

@@ -3,6 +3,7 @@ use Rattle.std.specs.Prelude.{◌≡◌, ℕ, ◌-◌, ◌==◌, ◌&&◌, ◌||
 use Rattle.dstm_machines.specs.Machines as machines
 pub use Rattle.dstm_machines.specs.Traces.{newest_of}
 use Rattle.dstm_core.specs.Events.{Event}
+use Rattle.dstm_core.specs.Kinds.{is_one_of}
 use Rattle.dstm_core.specs.declared.event.Kind.{Kind}
 use Rattle.dstm_core.specs.declared.event.Kind.TheVariants.{Quit}
 use Rattle.dstm_core.specs.declared.shape.Shape.{Shape}
@@ -51,8 +52,7 @@ pub record IsCall
 -- ---- what a call answers
 
 abbrev pub is_quit : Kind → Bool
-is_quit Quit = true
-is_quit kind = false
+is_quit = is_one_of (Quit ∷ [])
 
 abbrev pub has_quit : Option Event → Bool
 has_quit None = false

@@ -8,7 +8,7 @@ use Rattle.dstm_core.specs.declared.shape.Shape.{Shape}
 use Rattle.dstm_core.specs.Runs.{local}
 use Rattle.dstm_core.specs.Traces.{events_of}
 use Rattle.dstm_order.specs.Calls.{effort_of, newest_of}
-use Rattle.dstm_order.specs.Drive.{calls, goes, kinds_of, nine, zeros}
+use Rattle.dstm_order.specs.Drive.{calls, goes, kinds_of, nine, small, zeros}
 use Rattle.dstm_order.specs.Efforts.{no_effort}
 use Rattle.dstm_order.specs.Tasks.{Task}
 use Rattle.dstm_order.specs.Tasks.Task.{Enrolling, Beginning, Leaving, Doing}
@@ -34,14 +34,7 @@ ends shape c task before log =
 
 -- two objects, three callers with three attempts and six locators each
 abbrev pub of_three : Manager → Shape
-of_three manager = record {
-  objects = 2;
-  callers = 3;
-  attempts = 3;
-  locators = 6;
-  manager = manager;
-  all_write = false;
-}
+of_three manager = record (small manager) { objects = 2; callers = 3; attempts = 3; locators = 6 }
 
 abbrev pub greedy : Shape
 greedy = of_three Greedy

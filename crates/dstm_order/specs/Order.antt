@@ -3,6 +3,7 @@
 -- It is one table over all calls. Each row is a sentence on what comes next, of the caller's state and of the
 -- effort of this call; nothing is said of loops and of functions.
 use Rattle.std.specs.Prelude.{◌≡◌, ℕ, ◌+◌, ◌==◌, Bool, true, false, length, Option, Some, None, is_some, is_none, not, nat_lt, ◌&&◌, ◌||◌, min, if◌then◌else◌}
+pub use Rattle.dstm_core.specs.Counts.{is_begin}
 use Rattle.dstm_core.specs.Events.{Event}
 use Rattle.dstm_core.specs.declared.event.Kind.{Kind}
 use Rattle.dstm_core.specs.declared.event.Kind.TheVariants.{Enrol, Stamp, Rank, Begin, LookObj, LookOwner, LookStatus, LookRank, LookOld, LookHigh, LookNew, PutOwner, PutOld, Install, LookNumber, Check, LookSelf, Release, PutHigh, PutNew, Validating as ToValidating, Draw, Commit, Kill, Quit, Pause, Resume}
@@ -53,9 +54,7 @@ IsDue Done event = ⊥
 -- attempts have ranks: under every manager but Polite
 abbrev pub has_ranks : Manager → Bool
 has_ranks Polite = false
-has_ranks Karma = true
-has_ranks Polka = true
-has_ranks Greedy = true
+has_ranks manager = true
 
 -- an attempt's rank rises as it opens objects
 abbrev pub rises : Manager → Bool
@@ -66,10 +65,8 @@ rises Greedy = false
 
 -- a transaction draws a stamp, which is its rank
 abbrev pub has_stamps : Manager → Bool
-has_stamps Polite = false
-has_stamps Karma = false
-has_stamps Polka = false
 has_stamps Greedy = true
+has_stamps manager = false
 
 -- ---- to resolve an object
 
@@ -229,10 +226,6 @@ next_or_first (Some event) work manager state effort = next event.kind event wor
 abbrev pub is_spent : Shape → LocalState → Bool
 is_spent shape state =
     not (nat_lt state.begun shape.attempts) || nat_lt shape.locators (state.installed + shape.objects)
-
-abbrev pub is_begin : Kind → Bool
-is_begin Begin = true
-is_begin kind = false
 
 abbrev pub has_begun : Option Event → Bool
 has_begun None = false

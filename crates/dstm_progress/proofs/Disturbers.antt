@@ -36,11 +36,7 @@ early_hits Kill e h = absurd (cc)
 early_hits k e h = refl
 
 early_apart : (k : Kind) → is_early k ≡ true → is_at_own k ≡ false
-early_apart Enrol h = refl
-early_apart Stamp h = refl
-early_apart Rank h = refl
-early_apart Begin h = refl
-early_apart k h = absurd (cc)
+early_apart k h = grind arith
 
 -- ---- an own event, of an attempt that found all as it is
 
@@ -59,12 +55,7 @@ at_own_place s l e Resume a h = a.0
 at_own_place s l e k a h = absurd (cc)
 
 given_live : (p : Phase) → (given p == 5) ≡ false
-given_live Outside = refl
-given_live Running = refl
-given_live Paused = refl
-given_live Putting = refl
-given_live Validating = refl
-given_live Drawn = refl
+given_live p = grind arith
 
 hits : (k : Kind) (e : Event) → (k ≡ Install → e.found ≡ e.expected) → (k ≡ Kill → e.found ≡ e.expected) →
     is_miss k e ≡ false

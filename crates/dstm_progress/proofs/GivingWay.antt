@@ -131,7 +131,6 @@ gave_first w s l g e es q a p =
     let old = state_after s l es in
     let new = state_after s l (e ∷ es) in
     let f = effort_of s l g (e ∷ es) in
-    let why = pause_may s old e q a in
     let same = pause_res s old e q in
     record {
       looks = [];
@@ -139,10 +138,12 @@ gave_first w s l g e es q a p =
       before = es;
       whole = refl;
       pauses = q;
-      why = why;
+      why = pause_may s old e q a;
       row = ap (λ k. next k e w s.manager new f) q ∙ row_paused s.manager new f (when_resolved w) p;
       owner = ap (λ (r : Resolution). r.owner) same;
-      status = ap (λ (r : Resolution). is_some r.status) same ∙ ap is_some (live_some (res old).status why.live);
+      status =
+          ap (λ (r : Resolution). is_some r.status) same
+          ∙ ap is_some (live_some (res old).status (pause_may s old e q a).live);
       places = tt;
       count = let x = pause_left s.manager old (effort_of s l g es) e q in omega arith;
       all = tt;

@@ -120,10 +120,9 @@ pub alone_answers : AloneAnswers
 alone_answers = λ s g call calls begin before a h live z.
     let c = begin.caller in
     let es = begin ∷ before in
-    let log = all_events calls ++ es in
     let parts = are_of_split c call.events (all_events calls) h.alone in
     let core' = subst (Core s) (append_assoc_events call.events (all_events calls) es) h.core in
-    let core = core_past s call.events log core' in
+    let core = core_past s call.events (all_events calls ++ es) core' in
     let here = local_after s c (all_events calls) es parts.1 in
     let g' = generator_after s (local s es c) g calls in
     let u = calls_inside g calls parts.1 core h.made.0

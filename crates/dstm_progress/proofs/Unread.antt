@@ -10,7 +10,7 @@ use Rattle.dstm_progress.specs.Oldest.{IsNoReading}
 use Rattle.dstm_progress.proofs.Calls.{nothing_due}
 use Rattle.dstm_progress.proofs.Own.{AreAllowed, allowed_split, state_both}
 use Rattle.dstm_progress.proofs.OwnEvents.{whole_allowed, whole_state}
-use Rattle.dstm_progress.proofs.Writers.{Nothing, call_nothing, call_reads, no_reading}
+use Rattle.dstm_progress.proofs.Writers.{Nothing, call_nothing, begins_call, call_reads, no_reading}
 
 -- between two calls: nothing is read, and an attempt that is under way has no object resolved
 record Between (l : LocalState) : Type 0 where
@@ -105,14 +105,7 @@ module _ (s : Shape) (l : LocalState) (g : Lcg) (before : Between l) where
       l.phase ≢ Outside → AllUnread s l es
   doing_all w [] without a h inside = unread before
   doing_all w (e ∷ es) without a h inside =
-      let start = begun inside in
-      let now = call_reads s g (e ∷ es) (no_reading w without) a h (record {
-        reads = start.reads;
-        agreed = start.agreed;
-        number = start.number;
-        clear = λ _. start.clear;
-        opening = λ q. absurd (cc);
-      }) in
+      let now = call_reads s g (e ∷ es) (no_reading w without) a h (begins_call (begun inside)) in
       (doing_all w es without a.0 h.0 inside, record { reads = now.reads; agreed = now.agreed })
 
   doing_unread : (w : Work) (es : List Event) → IsNoReading w → AreAllowed s l es → IsCall (Doing w) s l g es → Unread s l es

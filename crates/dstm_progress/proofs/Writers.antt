@@ -89,14 +89,7 @@ calm_next PutHigh e w m l f h = put_by (OpensBusy w) w l tt (λ q. absurd (cc)) 
 calm_next PutNew e w m l f h = put_by (OpensBusy w) w l tt (λ q. absurd (cc)) (λ n q. absurd (cc)) (λ n q. absurd (cc))
 calm_next ToValidating e w m l f h = λ q. absurd (cc)
 calm_next Draw e w m l f h = checking_by (OpensBusy w) l (λ q. absurd (cc)) (λ q. absurd (cc))
-calm_next Rank e w m l f h = tt
-calm_next Release e w m l f h = tt
-calm_next Commit e w m l f h = tt
-calm_next Quit e w m l f h = tt
-calm_next Enrol e w m l f h = tt
-calm_next Stamp e w m l f h = tt
-calm_next Begin e w m l f h = tt
-calm_next k e w m l f h = absurd (cc)
+calm_next k e w m l f h = first_of (assumption tt, cc)
 
 -- ---- an attempt that reads nothing
 
@@ -272,16 +265,15 @@ pub record Nothing (l : LocalState) : Type 0 where
   pub number : is_some l.number ≡ true
   pub clear : l.phase ≢ Outside → l.resolution ≡ None
 
+-- so a call begins
+pub begins_call : {w : Work} {l : LocalState} → Nothing l → ReadsNothing w None l
+begins_call n =
+    record { reads = n.reads; agreed = n.agreed; number = n.number; clear = λ _. n.clear; opening = λ q. absurd (cc) }
+
 pub call_nothing : {s : Shape} {w : Work} {l : LocalState} {g : Lcg} {events : List Event} → IsNoReading w →
     AreAllowed s l events → IsCall (Doing w) s l g events → Nothing l → Nothing (state_after s l events)
 call_nothing {s = s} {w = w} {l = l} {g = g} {events = events} h a call n =
-    let r = call_reads s g events (no_reading w h) a call.obeys (record {
-      reads = n.reads;
-      agreed = n.agreed;
-      number = n.number;
-      clear = λ _. n.clear;
-      opening = λ q. absurd (cc);
-    }) in
+    let r = call_reads s g events (no_reading w h) a call.obeys (begins_call n) in
     record {
       reads = r.reads;
       agreed = r.agreed;

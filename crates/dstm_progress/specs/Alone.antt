@@ -1,6 +1,7 @@
 -- An attempt that is alone: from its Begin on no other caller makes a step. What others left half done before plays
 -- no part.
 use Rattle.std.specs.Prelude.{◌≡◌, ◌≢◌, ◌⊎◌, ℕ, ◌+◌, ◌*◌, ◌≤◌, true, List, [], ◌∷◌, ◌++◌, length, Option, Some}
+use Rattle.std.specs.List.{flat_map}
 use Rattle.dstm_core.specs.Events.{Event}
 use Rattle.dstm_core.specs.declared.event.Kind.TheVariants.{Begin}
 use Rattle.dstm_core.specs.declared.shape.Manager.{Manager}
@@ -28,8 +29,7 @@ pub record Made : Type 0 where
 
 -- the events of calls, the newest first
 abbrev pub all_events : List Made → List Event
-all_events [] = []
-all_events (call ∷ calls) = call.events ++ all_events calls
+all_events calls = flat_map (λ call. call.events) calls
 
 -- the caller's generator after calls
 abbrev pub generator_after : Shape → LocalState → Lcg → List Made → Lcg

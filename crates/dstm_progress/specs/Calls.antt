@@ -109,25 +109,23 @@ EveryCommitEnds =
     ((local shape run c).phase ≡ Outside) × ((local shape run c).committed ≡ true)
     × StaysAt shape run c (code_of status.Committed)
 
--- Any answer but Waited shows that another caller has made a step since the Begin.
-abbrev pub EveryOtherAgainShowsAnother : Type 0
-EveryOtherAgainShowsAnother =
+-- this holds of each call that answers Again: of its shape, its attempt's Begin, the events since that, and the answer
+abbrev pub OfEveryAgain : (Shape → Event → List Event → Again → Type 0) → Type 0
+OfEveryAgain Holds =
     (shape : Shape) (generator : Lcg) (call : Made) (calls : List Made) (later : List Event) (begin : Event)
     (before : List Event) (again : Again) →
     Core shape (later ++ begin ∷ before) → begin.kind ≡ Begin →
     AreMade shape generator call calls later begin before →
     last_answer shape (local shape (begin ∷ before) begin.caller) generator call calls ≡ Some again →
-    again ≢ Waited → HasOther begin.caller later
+    Holds shape begin later again
+
+-- Any answer but Waited shows that another caller has made a step since the Begin.
+abbrev pub EveryOtherAgainShowsAnother : Type 0
+EveryOtherAgainShowsAnother = OfEveryAgain (λ shape begin later again. again ≢ Waited → HasOther begin.caller later)
 
 -- Any answer at all shows that the table has another caller.
 abbrev pub EveryAgainHasAnother : Type 0
-EveryAgainHasAnother =
-    (shape : Shape) (generator : Lcg) (call : Made) (calls : List Made) (later : List Event) (begin : Event)
-    (before : List Event) (again : Again) →
-    Core shape (later ++ begin ∷ before) → begin.kind ≡ Begin →
-    AreMade shape generator call calls later begin before →
-    last_answer shape (local shape (begin ∷ before) begin.caller) generator call calls ≡ Some again →
-    1 < shape.callers
+EveryAgainHasAnother = OfEveryAgain (λ shape begin later again. 1 < shape.callers)
 
 -- A call that commits adds its attempt to what its caller has committed,
 abbrev pub EveryCommitIsAdded : Type 0

@@ -33,8 +33,7 @@ abbrev pub finds_aborted : Shape → LocalState → Event → Bool
 finds_aborted shape state event = is_at_own event.kind && (event.found == code_of status.Aborted)
 
 abbrev pub is_look_status : Kind → Bool
-is_look_status LookStatus = true
-is_look_status kind = false
+is_look_status = is_one_of (LookStatus ∷ [])
 
 -- an attempt that gives way found the enemy live and not waiting
 abbrev pub gives_way : Shape → LocalState → Event → Bool

@@ -60,14 +60,8 @@ at_index [] i k within is = absurd (omega (arith, within))
 at_index (c ∷ cs) i zero within is =
     record { behind = []; cell = c; ahead = cs; split = refl; number = is }
 at_index (c ∷ cs) i (suc k) within is =
-    let rest = at_index cs i k (omega (arith, within)) is in
-    record {
-      behind = c ∷ rest.behind;
-      cell = rest.cell;
-      ahead = rest.ahead;
-      split = ap (λ ds. c ∷ ds) rest.split;
-      number = rest.number;
-    }
+    let a = at_index cs i k (omega (arith, within)) is in
+    record { behind = c ∷ a.behind; cell = a.cell; ahead = a.ahead; split = ap (λ d. c ∷ d) a.split; number = a.number }
 
 at_first : (cells : List Cell) (i : ℕ) → 0 < i → first_of (numbers_of cells) ≡ i → AtCell cells i
 at_first [] i some is = absurd (omega (arith, some, is))

@@ -71,6 +71,16 @@ end_put R B L T t = simp (append_assoc, append-nil)
 
 -- ---- each kind of line
 
+-- a line more: the draft holds what it held and what was read, and nothing of later parts
+grows : (draft more : Draft) (text : List ℕ) → IsHeld more.report → (rank more.part < 1 → more.report.bank ≡ None) →
+    (rank more.part < 2 → more.report.list ≡ None) → (rank more.part < 3 → more.report.tree ≡ None) →
+    more.report.version ≡ draft.report.version → so_far more ≡ so_far draft ++ text ∷ [] → HasGrown draft more text
+grows draft more text held bank list tree version lines = record {
+  draft_still = record { held = held; no_bank = bank; no_list = list; no_tree = tree };
+  same_version = version;
+  grown = lines;
+}
+
 grow_row : Printed → Only → {draft : Draft} (text : List ℕ) (row : Row) → IsDraft draft → rank draft.part ≡ 0 →
     row_of draft.report.version (pieces 32 text) ≡ Some row → HasGrown draft (with_row draft row) text
 grow_row printed only {draft = draft} text row is first read =
@@ -79,104 +89,54 @@ grow_row printed only {draft = draft} text row is first read =
     let spelled = row_of_is only version (pieces 32 text) row read in
     let shown : text ≡ row_line row = same_text 32 text (row_line row)
     (spelled.spelled ∙ sym (row_pieces printed spelled.reply spelled.replies spelled.has spelled.are)) in
-    record {
-      draft_still = record {
-        held = record {
-          version = is.held.version;
-          rows = All-push (HasRow version) rows row is.held.rows spelled.has;
-          bank = is.held.bank;
-          list = is.held.list;
-          tree = is.held.tree;
-          count = is.held.count;
-        };
-        no_bank = is.no_bank;
-        no_list = is.no_list;
-        no_tree = is.no_tree;
-      };
-      same_version = refl;
-      grown = rw (
-        map_push row_line rows row,
-        is.no_bank (omega (arith, first)),
-        is.no_list (omega (arith, first)),
-        is.no_tree (omega (arith, first)),
-        no_end draft.part draft.report.count (omega (arith, first)),
-        shown,
-      )
-          (simp (append_assoc, append-nil));
-    }
+    grows draft (with_row draft row) text (assumption (All-push (HasRow version) rows row is.held.rows spelled.has)) is.no_bank
+    is.no_list is.no_tree refl (rw (
+      map_push row_line rows row,
+      is.no_bank (omega (arith, first)),
+      is.no_list (omega (arith, first)),
+      is.no_tree (omega (arith, first)),
+      no_end draft.part draft.report.count (omega (arith, first)),
+      shown,
+    ) (simp (append_assoc, append-nil)))
 
 -- the line of a structure with numbers
-numbers_shown : Printed → {name : List ℕ} (text : List ℕ) {word : List ℕ} (rest : List (List ℕ)) (numbers : List ℕ) →
-    IsWord name →
-    pieces 32 text ≡ word ∷ rest → word ≡ name → (rest ≡ map decimal numbers) × All IsNumber numbers →
-    text ≡ name ++ flat_map number_field numbers
-numbers_shown printed {name = name} text rest numbers is_name words named read =
-    same_text 32 text (name ++ flat_map number_field numbers)
-    (words ∙ same_cons named read.0 ∙ sym (fields_pieces decimal name numbers is_name (number_words printed numbers read.1)))
+numbers_shown : Printed → Only → {name : List ℕ} (text : List ℕ) {word : List ℕ} (rest : List (List ℕ))
+    (numbers : List ℕ) → IsWord name → pieces 32 text ≡ word ∷ rest → word ≡ name → numbers_of rest ≡ Some numbers →
+    All IsNumber numbers × (text ≡ name ++ flat_map number_field numbers)
+numbers_shown printed only {name = name} text rest numbers is_name words named found =
+    let read = numbers_of_is only rest numbers found in (
+      read.1,
+      same_text 32 text (name ++ flat_map number_field numbers)
+          (words ∙ same_cons named read.0
+          ∙ sym (fields_pieces decimal name numbers is_name (number_words printed numbers read.1))),
+    )
 
-grow_bank : Printed → Only → {draft : Draft} (text : List ℕ) {word : List ℕ} (rest : List (List ℕ)) (numbers : List ℕ) →
-    IsDraft draft → rank draft.part < 1 → pieces 32 text ≡ word ∷ rest → word ≡ codes "bank" →
-    numbers_of rest ≡ Some numbers → HasGrown draft (with_bank draft numbers) text
-grow_bank printed only {draft = draft} text {word = word} rest numbers is first words named read =
-    let numbers_are = numbers_of_is only rest numbers read in
-    let shown = numbers_shown printed text rest numbers
-    (record { in_line = refl; in_words = refl }) words named numbers_are in
-    record {
-      draft_still = record {
-        held = record {
-          version = is.held.version;
-          rows = is.held.rows;
-          bank = numbers_are.1;
-          list = is.held.list;
-          tree = is.held.tree;
-          count = is.held.count;
-        };
-        no_bank = λ before. absurd (omega (arith, before));
-        no_list = λ before. is.no_list (omega (arith, first));
-        no_tree = λ before. is.no_tree (omega (arith, first));
-      };
-      same_version = refl;
-      grown = rw (
-        is.no_bank first,
-        is.no_list (omega (arith, first)),
-        is.no_tree (omega (arith, first)),
-        no_end draft.part draft.report.count (omega (arith, first)),
-        shown,
-      ) (simp (append_assoc, append-nil));
-    }
+grow_bank : {draft : Draft} {text : List ℕ} (numbers : List ℕ) → IsDraft draft → rank draft.part < 1 →
+    All IsNumber numbers × (text ≡ codes "bank" ++ flat_map number_field numbers) →
+    HasGrown draft (with_bank draft numbers) text
+grow_bank {draft = draft} {text = text} numbers is first (new, shown) =
+    grows draft (with_bank draft numbers) text (assumption new) (λ before. absurd (omega (arith, before)))
+    (λ before. is.no_list (omega (arith, first))) (λ before. is.no_tree (omega (arith, first))) refl (rw (
+      is.no_bank first,
+      is.no_list (omega (arith, first)),
+      is.no_tree (omega (arith, first)),
+      no_end draft.part draft.report.count (omega (arith, first)),
+      shown,
+    ) (simp (append_assoc, append-nil)))
 
-grow_list : Printed → Only → {draft : Draft} (text : List ℕ) {word : List ℕ} (rest : List (List ℕ)) (numbers : List ℕ) →
-    IsDraft draft → rank draft.part < 2 → pieces 32 text ≡ word ∷ rest → word ≡ codes "list" →
-    numbers_of rest ≡ Some numbers → HasGrown draft (with_list draft numbers) text
-grow_list printed only {draft = draft} text {word = word} rest numbers is first words named read =
-    let numbers_are = numbers_of_is only rest numbers read in
-    let shown = numbers_shown printed text rest numbers
-    (record { in_line = refl; in_words = refl }) words named numbers_are in
-    record {
-      draft_still = record {
-        held = record {
-          version = is.held.version;
-          rows = is.held.rows;
-          bank = is.held.bank;
-          list = numbers_are.1;
-          tree = is.held.tree;
-          count = is.held.count;
-        };
-        no_bank = λ before. absurd (omega (arith, before));
-        no_list = λ before. absurd (omega (arith, before));
-        no_tree = λ before. is.no_tree (omega (arith, first));
-      };
-      same_version = refl;
-      grown = rw (
-        is.no_list first,
-        is.no_tree (omega (arith, first)),
-        no_end draft.part draft.report.count (omega (arith, first)),
-        shown,
-      ) (simp (append_assoc, append-nil));
-    }
+grow_list : {draft : Draft} {text : List ℕ} (numbers : List ℕ) → IsDraft draft → rank draft.part < 2 →
+    All IsNumber numbers × (text ≡ codes "list" ++ flat_map number_field numbers) →
+    HasGrown draft (with_list draft numbers) text
+grow_list {draft = draft} {text = text} numbers is first (new, shown) =
+    grows draft (with_list draft numbers) text (assumption new) (λ before. absurd (omega (arith, before)))
+    (λ before. absurd (omega (arith, before))) (λ before. is.no_tree (omega (arith, first))) refl (rw (
+      is.no_list first,
+      is.no_tree (omega (arith, first)),
+      no_end draft.part draft.report.count (omega (arith, first)),
+      shown,
+    ) (simp (append_assoc, append-nil)))
 
-grow_tree : Printed → Only → {draft : Draft} (text : List ℕ) {word : List ℕ} (rest : List (List ℕ)) (items : List Item)
-    →
+grow_tree : Printed → Only → {draft : Draft} (text : List ℕ) {word : List ℕ} (rest : List (List ℕ)) (items : List Item) →
     IsDraft draft → rank draft.part < 3 → pieces 32 text ≡ word ∷ rest → word ≡ codes "tree" →
     items_of draft.report.version rest ≡ Some items → HasGrown draft (with_tree draft items) text
 grow_tree printed only {draft = draft} text rest items is first words named read =
@@ -186,24 +146,10 @@ grow_tree printed only {draft = draft} text rest items is first words named read
     let shown : text ≡ line = same_text 32 text line (words ∙ same_cons named items_are.0
     ∙ sym (fields_pieces (item_text version) (codes "tree") items (record { in_line = refl; in_words = refl })
     (item_words printed version items items_are.1))) in
-    record {
-      draft_still = record {
-        held = record {
-          version = is.held.version;
-          rows = is.held.rows;
-          bank = is.held.bank;
-          list = is.held.list;
-          tree = items_are.1;
-          count = is.held.count;
-        };
-        no_bank = λ before. absurd (omega (arith, before));
-        no_list = λ before. absurd (omega (arith, before));
-        no_tree = λ before. absurd (omega (arith, before));
-      };
-      same_version = refl;
-      grown = rw (is.no_tree first, no_end draft.part draft.report.count (omega (arith, first)), shown)
-          (simp (append_assoc, append-nil));
-    }
+    grows draft (with_tree draft items) text (assumption (items_are.1)) (λ before. absurd (omega (arith, before)))
+    (λ before. absurd (omega (arith, before))) (λ before. absurd (omega (arith, before))) refl
+    (rw (is.no_tree first, no_end draft.part draft.report.count (omega (arith, first)), shown)
+    (simp (append_assoc, append-nil)))
 
 grow_end : Printed → Only → {draft : Draft} (text : List ℕ) {word : List ℕ} (rest : List (List ℕ)) (count : ℕ) →
     IsDraft draft → rank draft.part < 4 → pieces 32 text ≡ word ∷ rest → word ≡ codes "end" →
@@ -212,23 +158,9 @@ grow_end printed only {draft = draft} text rest count is first words named read 
     let count_is = count_of_is only rest count read in
     let shown : text ≡ end_text count = same_text 32 text (end_text count)
     (words ∙ same_cons named count_is.0 ∙ sym (end_words printed count count_is.1)) in
-    record {
-      draft_still = record {
-        held = record {
-          version = is.held.version;
-          rows = is.held.rows;
-          bank = is.held.bank;
-          list = is.held.list;
-          tree = is.held.tree;
-          count = count_is.1;
-        };
-        no_bank = λ before. absurd (omega (arith, before));
-        no_list = λ before. absurd (omega (arith, before));
-        no_tree = λ before. absurd (omega (arith, before));
-      };
-      same_version = refl;
-      grown = rw (no_end draft.part draft.report.count first, shown) (simp (append_assoc, append-nil));
-    }
+    grows draft (with_count draft count) text (assumption (count_is.1)) (λ before. absurd (omega (arith, before)))
+    (λ before. absurd (omega (arith, before))) (λ before. absurd (omega (arith, before))) refl
+    (rw (no_end draft.part draft.report.count first, shown) (simp (append_assoc, append-nil)))
 
 -- ---- any line
 
@@ -271,12 +203,12 @@ add_line_grows printed only text {draft = draft} more is added = by_words (piece
         (ap (row_of draft.report.version) words ∙ found.1))
     by_part word rest part.Bank words named fits read =
         let found = map_some (with_bank draft) (numbers_of rest) more read in
-        subst (λ m. HasGrown draft m text) found.2
-        (grow_bank printed only text rest found.0 is (ltb-true (rank draft.part) 1 fits) words named found.1)
+        let line = numbers_shown printed only text rest found.0 (record { in_line = refl; in_words = refl }) words named found.1 in
+        subst (λ m. HasGrown draft m text) found.2 (grow_bank found.0 is (ltb-true (rank draft.part) 1 fits) line)
     by_part word rest part.List words named fits read =
         let found = map_some (with_list draft) (numbers_of rest) more read in
-        subst (λ m. HasGrown draft m text) found.2
-        (grow_list printed only text rest found.0 is (ltb-true (rank draft.part) 2 fits) words named found.1)
+        let line = numbers_shown printed only text rest found.0 (record { in_line = refl; in_words = refl }) words named found.1 in
+        subst (λ m. HasGrown draft m text) found.2 (grow_list found.0 is (ltb-true (rank draft.part) 2 fits) line)
     by_part word rest part.Tree words named fits read =
         let found = map_some (with_tree draft) (items_of draft.report.version rest) more read in
         subst (λ m. HasGrown draft m text) found.2

@@ -1,6 +1,6 @@
 -- What the reader of reports answers, beside what its text stands for.
 use Rattle.std.specs.Prelude.{◌≡◌, ℕ, Result, Err}
-use Rattle.dstm_text.specs.Answers.{GivesBy as GivesSeen}
+use Rattle.dstm_text.specs.Answers.{GivesBy}
 use Rattle.dstm_report.specs.declared.error.ReportError.{ReportError}
 use Rattle.dstm_report.specs.declared.error.ReportError.TheVariants as errors
 
@@ -19,9 +19,6 @@ abbrev pub Fails : {Y : Type 0} → ReportError → Result Y ℕ → Type 0
 Fails (errors.Memory e) read = Unit {0}
 Fails (errors.Form line) read = read ≡ Err line
 
--- an answer, seen by view, is what reading gives, unless memory ran out
-abbrev pub GivesBy : {X Y : Type 0} → (X → Y) → Result X ReportError → Result Y ℕ → Type 0
-GivesBy view result read = GivesSeen Fails view result read
-
+-- an answer is what reading gives, unless memory ran out
 abbrev pub Gives : {X : Type 0} → Result X ReportError → Result X ℕ → Type 0
-Gives result read = GivesBy (λ x. x) result read
+Gives result read = GivesBy Fails (λ x. x) result read

@@ -1,8 +1,9 @@
 ghost use Rattle.std.specs.Prelude.{◌≡◌, ◌≤◌, ◌<◌, ◌^◌, ◌↔◌, ◌⊎◌, ◌++◌, ℕ, List, [], ◌∷◌, vec_len, vec_capacity, Some, IfSome, Ok, Err, IfOk, IfErr, option_map};
+ghost use Rattle.dstm_text.specs.Answers.{GivesBy};
 ghost use Rattle.dstm_text.specs.Lines.{lines_of, pieces, space};
 ghost use Rattle.dstm_report.specs.declared.report.Report.{Report as TheReport};
 ghost use Rattle.dstm_report.specs.Text.{report_text};
-ghost use Rattle.dstm_report.specs.Answers.{Gives, GivesBy, TellsLine};
+ghost use Rattle.dstm_report.specs.Answers.{Fails, Gives, TellsLine};
 ghost use Rattle.dstm_report.specs.Parser.{after_word, number_in, number_at, at_end, pair_of, place_at, known_reply};
 ghost use Rattle.dstm_report.specs.Parser.{reply_of, further_reply, replies_of, row_of, numbers_of, item_of, items_of};
 ghost use Rattle.dstm_report.specs.Parser.{count_of, part_of, rank, can_follow, add_part, add_line, or_line, finished};
@@ -126,7 +127,7 @@ fn blank(alloc: Global, version: u32) -> Draft
 impl Draft {
     // Puts a line behind those read.
     fn add_line(&mut self, alloc: Global, line: u64, text: &[u8]) -> Result<(), ReportError>
-        ensures { GivesBy (λ _. self.new) result (or_line line (add_line text.now self.old)) }
+        ensures { GivesBy Fails (λ _. self.new) result (or_line line (add_line text.now self.old)) }
     {
         let mut words = Pieces::new(text, b' ');
         let first = words.next().ok_or(ReportError::Form(line))?;
@@ -136,7 +137,7 @@ impl Draft {
         }
         let report = &mut self.report;
         match part {
-            Part::Rows => report.rows.add(report.version, line, first, words)?,
+            Part::Rows => add_row(&mut report.rows, report.version, line, first, words)?,
             Part::Bank => report.bank = Some(numbers(alloc, line, words)?),
             Part::List => report.list = Some(numbers(alloc, line, words)?),
             Part::Tree => report.tree = Some(items(alloc, report.version, line, words)?),
@@ -183,23 +184,21 @@ fn rank(part: Part) -> u8
     part as u8
 }
 
-impl Rows {
-    // Puts the row that these words spell behind the others.
-    fn add(
-        &mut self,
-        version: u32,
-        line: u64,
-        first: &[u8],
-        words: Pieces<'_>,
-    ) -> Result<(), ReportError>
-        ensures { GivesBy (λ _. self.new) result
-            (or_line line (option_map (λ row. self.old ++ row ∷ []) (row_of version (first.now ∷ words.entry)))) }
-    {
-        self.items.reserve(1)?;
-        match add_reserved(&mut self.items, version, first, words) {
-            Some(()) => Ok(()),
-            None => Err(ReportError::Form(line)),
-        }
+// Puts the row that these words spell behind the others.
+fn add_row(
+    rows: &mut Rows,
+    version: u32,
+    line: u64,
+    first: &[u8],
+    words: Pieces<'_>,
+) -> Result<(), ReportError>
+    ensures { GivesBy Fails (λ _. rows.new) result
+        (or_line line (option_map (λ row. rows.old ++ row ∷ []) (row_of version (first.now ∷ words.entry)))) }
+{
+    rows.items.reserve(1)?;
+    match add_reserved(&mut rows.items, version, first, words) {
+        Some(()) => Ok(()),
+        None => Err(ReportError::Form(line)),
     }
 }
 

@@ -1,7 +1,4 @@
-ghost use Rattle.std.specs.Prelude.{◌≡◌};
-
-use dstm_model::{Items, Numbers, Replies};
-use std::marker::Model;
+use dstm_model::{Items, Listed, Numbers, Replies};
 
 /// What one committed transaction answered.
 #[derive(Debug, Drop)]
@@ -19,33 +16,7 @@ pub struct Row {
 }
 
 /// The rows of a report, in order.
-#[derive(Debug, Drop)]
-pub struct Rows {
-    pub(crate) items: Vec<Row>,
-}
-
-impl Model for Rows {
-    ghost use Rattle.std.specs.Prelude.{List};
-    ghost use Rattle.dstm_report.specs.declared.report.Row.{Row};
-
-    ghost Value = { List Row };
-
-    ghost view = { λ rows. rows.items.items };
-}
-
-impl Rows {
-    pub fn from_vec(items: Vec<Row>) -> Rows
-        ensures { result ≡ items.items }
-    {
-        Rows { items }
-    }
-
-    pub fn as_slice(&self) -> &[Row]
-        ensures { result.now ≡ self.now }
-    {
-        self.items.as_slice()
-    }
-}
+pub type Rows = Listed<Row>;
 
 /// What a run did, and what it left.
 #[derive(Debug, Drop)]

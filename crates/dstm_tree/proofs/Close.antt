@@ -3,11 +3,12 @@ use Rattle.dstm_tree.proofs.Base.{◌≡◌, ℕ, ◌+◌, ◌<◌, ◌≤◌, B
 use Rattle.dstm_tree.proofs.Base.{Region, Node, Side, Cut, other, Tree, is_red, count_of, black_height, object_of}
 use Rattle.dstm_tree.proofs.Base.{FitsTree, IsRead, Stands, Fork, child, with_child, with_red, sided, val_of, Sets}
 use Rattle.dstm_tree.proofs.Base.{false_from_ne_true, Updates, IsCut, fall_of, blackness, Gap, HasGap, Fall, HasFall}
-use Rattle.dstm_tree.proofs.Base.{Closes, Lifts, one_at}
+use Rattle.dstm_tree.proofs.Base.{Closes, Ghosts, Lifts, Ok, Steps, not, one_at, with_set}
 use Rattle.dstm_tree.proofs.Kept.{Stands-kept, Changes-more, Changes-within, wrote}
 use Rattle.dstm_tree.proofs.Sides.{child-set, child-kept, child-kept_too, sided-counts, on-counts, sided-height}
 use Rattle.dstm_tree.proofs.Sides.{items-near, turned}
 use Rattle.dstm_tree.proofs.Forks.{forked_read, missing_child, written}
+use Rattle.dstm_tree.proofs.Stepping.{steps-as, steps-then}
 
 -- nothing fell
 pub close-kept : {region : Region} {side : Side} {held p : Node} {fell : Bool} {near far : Tree} {before : List Val}
@@ -48,7 +49,7 @@ beside {side} has read h =
     h.far_stands in
     record { inner = found.near; outer = found.far; tree = found.tree; gap = rw found.tree at h; fork = found.fork }
 
-pub closes-beside : {region : Region} (side : Side) (red : Bool) (held p : Node) {s : Node} (cut : Cut)
+closes-beside : {region : Region} (side : Side) (red : Bool) (held p : Node) {s : Node} (cut : Cut)
     {before mid after : List Val} → FitsTree region → s.red ≡ red →
     IsRead region (child (other side) p) s before mid → Lifts region side red held p s cut before after →
     Closes region side held p true cut before after
@@ -56,12 +57,31 @@ closes-beside side red held p cut has colour read does near far h =
     let b = beside has read h in
     rw b.tree (does near b.inner b.outer (record { gap = b.gap; fork = b.fork; colour = colour })).0
 
-pub has-fall : {region : Region} (side : Side) (red : Bool) (held p : Node) {s : Node} {before mid : List Val} →
+has-fall : {region : Region} (side : Side) (red : Bool) (held p : Node) {s : Node} {before mid : List Val} →
     FitsTree region → s.red ≡ red → IsRead region (child (other side) p) s before mid →
     HasGap region side held p true before → HasFall region side red held p s mid
 has-fall side red held p has colour read (near, (far, h)) =
     let b = beside has read h in
     rw read.same (near, (b.inner, (b.outer, record { gap = b.gap; fork = b.fork; colour = colour })))
+
+-- behind the read of a sibling of this colour, what balances the node with it may be called, and what it does closes the gap
+module _ {S E : Type 0} {M : Ghosts S E} {region : Region} (side : Side) (red : Bool) (held p : Node) {s : Node} {fell : Bool}
+    {far : Side} {number : ℕ} {old mid : S} (has : FitsTree region) (colour : not s.red ≡ not red) (is_far : far ≡ other side)
+    (is_child : number ≡ child far p) (lost : fell ≡ true)
+    (read : Steps M region (λ node. Unit {0}) (IsRead region number) old mid (Ok s)) where
+  colour_is : s.red ≡ red
+  colour_is = grind arith
+
+  pub may-lift : ((map : List Val) → M.Admits old map → HasGap region side held p fell (with_set map (M.written old))) →
+      (map : List Val) → M.Admits mid map → HasFall region side red held p s (with_set map (M.written mid))
+  may-lift gap map admitted =
+      has-fall side red held p has colour_is (rw (is_child, is_far) at (read.does map admitted))
+      (rw lost at (gap map (read.leads.narrows map admitted)))
+
+  pub lifted : (cut : Cut) {new : S} → Steps M region (λ cut. ⊥) (Lifts region side red held p s) mid new (Ok cut) →
+      Steps M region (λ cut. ⊥) (Closes region side held p fell) old new (Ok cut)
+  lifted cut step = steps-as (steps-then read step) (λ never. absurd never) (λ before after h.
+      rw lost (closes-beside side red held p cut has colour_is (rw (is_child, is_far) at h.first) (rw h.first.same at h.second)))
 
 -- ---- beside a red sibling the node becomes red, and gets the sibling's near subtree
 

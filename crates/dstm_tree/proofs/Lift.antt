@@ -68,6 +68,10 @@ rearranged region side x y z a b c d t height red cut before after set some_x in
       keeps = Changes-within (λ i none. omega (arith, counts i)) changes;
     }
 
+-- what a black node adds to the height, and a red one
+black_and_red : {sibling child : Bool} → sibling ≡ false → child ≡ true → (blackness sibling ≡ 1) × (blackness child ≡ 0)
+black_and_red black red = (ap blackness black, ap blackness red)
+
 -- the outer child of the sibling is red
 pub lifts-outer : {region : Region} (side : Side) (held p s : Node) {o : Node} {cut : Cut}
     {before mid after : List Val} → FindsRed region (child (other side) s) (Some o) before mid → Arranges region
@@ -84,8 +88,7 @@ lifts-outer {region} side held p s {o} {cut} {before} {after} finds set near a o
     let o' = with_red false o in
     let high = sided-height side s a (sided side o b c) h.fork.heights in
     let high_o = sided-height side o b c red.fork.heights in
-    let black = ap blackness h.colour in
-    let no_black = ap blackness red.red in (
+    let colours = black_and_red h.colour red.red in (
       rw red.tree (rearranged region side p' o' s' near a b c (sided side p near all)
           (black_height all + blackness p.red) p.red cut before after set h.gap.number h.gap.within
           red.fork.number red.fork.within h.fork.number
@@ -116,8 +119,7 @@ lifts-inner {region} side held p s {o} {cut} {before} {after} finds set near inn
     let o' = with_red p.red (with_child (other side) s.number (with_child side p.number o)) in
     let high = sided-height side s (sided side o a b) c h.fork.heights in
     let high_o = sided-height side o a b red.fork.heights in
-    let black = ap blackness h.colour in
-    let no_black = ap blackness red.red in (
+    let colours = black_and_red h.colour red.red in (
       rw red.tree (rearranged region side p' s' o' near a b c (sided side p near all)
           (black_height all + blackness p.red) p.red cut before after set h.gap.number h.gap.within
           h.fork.number h.fork.within red.fork.number

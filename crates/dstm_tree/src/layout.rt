@@ -1,8 +1,7 @@
 ghost use Rattle.std.specs.Prelude.{◌≡◌, ◌<◌, ◌≤◌};
 ghost use Rattle.dstm_model.specs.Layout.{IsValid, FitsLayout};
 ghost use Rattle.dstm_model.specs.Objects.{objects_of};
-ghost use Rattle.dstm_mem.specs.Operations.{IsReady};
-ghost use Rattle.dstm_mem.specs.Operates.{Applies};
+ghost use Rattle.dstm_mem.specs.Operates.{Applies, IsReady};
 ghost use Rattle.dstm_region.specs.Region.{tree_region};
 ghost use Rattle.dstm_tree.specs.Objects.{root_of, object_of, IsTree};
 ghost use Rattle.dstm_tree.specs.Node.{HasTree};

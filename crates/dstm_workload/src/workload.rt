@@ -1,7 +1,4 @@
-ghost use Rattle.std.specs.Prelude.{◌≡◌};
-
-use dstm_model::{Layout, Ops};
-use std::marker::Model;
+use dstm_model::{Layout, Listed, Ops};
 
 /// The newest version of workloads; the oldest is 1.
 pub const VERSIONS: u32 = 3;
@@ -26,33 +23,7 @@ pub struct Job {
 }
 
 /// A list of jobs.
-#[derive(Debug, Drop)]
-pub struct Jobs {
-    items: Vec<Job>,
-}
-
-impl Model for Jobs {
-    ghost use Rattle.std.specs.Prelude.{List};
-    ghost use Rattle.dstm_workload.specs.declared.workload.Job.{Job};
-
-    ghost Value = { List Job };
-
-    ghost view = { λ jobs. jobs.items.items };
-}
-
-impl Jobs {
-    pub fn from_vec(items: Vec<Job>) -> Jobs
-        ensures { result ≡ items.items }
-    {
-        Jobs { items }
-    }
-
-    pub fn as_slice(&self) -> &[Job]
-        ensures { result.now ≡ self.now }
-    {
-        self.items.as_slice()
-    }
-}
+pub type Jobs = Listed<Job>;
 
 /// What a run has to do.
 #[derive(Debug, Drop)]

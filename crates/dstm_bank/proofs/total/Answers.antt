@@ -26,9 +26,8 @@ counted g c map admitted =
 pub overflow_add-sum : goal.overflow_add-sum
 overflow_add-sum g c =
     let so_far = c.loop-account.invariant in
-    let opened = c.in_ok-sum.ensures in
-    let (map, admitted) = opened.admits in
-    let in_loop = opened.narrows map admitted in
+    let (map, admitted) = c.in_ok-sum.ensures.admits in
+    let in_loop = c.in_ok-sum.ensures.narrows map admitted in
     let (store, bank) = c.requires.ready.lawful map (so_far.narrows map in_loop) in
     let fits =
     sum_first-fits c.requires.valid bank (counted g (goal.at.overflow_add-sum g c).In_ok-sum map admitted) in

@@ -1,34 +1,25 @@
 use Rattle.std.specs.Prelude.{Err}
-use Rattle.std.proofs.Common.{◌≡◌, ◌≢◌, ◌+◌, ◌≤◌, ℕ, IsTrue, length, rules, arith, refl, sym, ◌∙◌, ap, subst}
+use Rattle.std.proofs.Common.{◌≡◌, ◌≢◌, ℕ, IsTrue, rules, arith, refl, sym, ◌∙◌, ap, subst}
 use Rattle.dstm_model.specs.declared.reply.Reply.TheVariants.{Yes, Full}
 use Rattle.dstm_model.specs.Map.{value_at}
 use Rattle.dstm_model.specs.Objects.{free_object}
 use Rattle.dstm_mem.specs.declared.memory.Mem.{Ghosts}
 use Rattle.dstm_mem.specs.Memory.{with_set}
-use Rattle.dstm_mem.proofs.Operations.{only_reads-none, opens_to_set-none}
-use Rattle.dstm_mem.proofs.Operating.{untouched-none, operates-then, operates-ended}
-use Rattle.dstm_mem.proofs.WithSet.{length-with_set}
-use Rattle.dstm_region.specs.Region.{IsInside, size_of}
+use Rattle.dstm_mem.proofs.Operating.{operates-then, operates-ended}
+use Rattle.dstm_region.specs.Region.{IsInside}
 use Rattle.dstm_list.specs.List.{node, next_of}
 use Rattle.dstm_list.specs.Edits.{Adds}
 use Rattle.dstm_list.specs.Reads.{IsRead}
 use Rattle.dstm_list.proofs.Operations.{does-no_insert, does-full, does-insert, first_free}
 use Rattle.dstm_list.proofs.Steps.{node-of_list}
-use Rattle.dstm_list.proofs.Walked.{operates-at, set-known}
+use Rattle.dstm_list.proofs.Walked.{inside_map, operates-at, operates-still, set-known}
 use Rattle.dstm_list.proofs.edit.insert_at.Goals as goal
 
 pub returns-then-is_some-clause-applies : goal.returns-then-is_some-clause-applies
 returns-then-is_some-clause-applies g c =
-    let M = g.M.Mem in
-    record {
-      leads = search rules;
-      outside = λ o out. untouched-none M c.args.mem.now o;
-      marks = λ all. opens_to_set-none M c.args.mem.now;
-      quiet = λ look. only_reads-none M c.args.mem.now;
-      does = λ map admitted.
-          does-no_insert c.args.key c.args.place (c.requires.ready.found map admitted)
-          (sym c.is_some.ensures ∙ c.if-is_some.true);
-    }
+    operates-still c.requires.ready.admits c.requires.ready.ready.live (λ map admitted.
+    does-no_insert c.args.key c.args.place (c.requires.ready.found map admitted)
+    (sym c.is_some.ensures ∙ c.if-is_some.true))
 
 -- no node is free
 pub returns-then-number-eq0-clause-applies : goal.returns-then-number-eq0-clause-applies
@@ -73,9 +64,8 @@ returns-clause-applies g c =
     let before = with_set map (M.written start) in
     let seen = h.first.first.first in
     let had = h.first.first.second in
-    let size = g.met.M.Mem.admitted_length start map admitted in
-    let in_map : region.first + size_of region ≤ length before =
-    omega (arith, size, c.requires.ready.ready.objects, length-with_set map (M.written start)) in
+    let in_map = inside_map region map (M.written start) (g.met.M.Mem.admitted_length start map admitted)
+    c.requires.ready.ready.objects in
     let free = seen.next ∙ ap next_of (ap (value_at before) free_is) in
     let rest = ap (value_at before) (sym c.node_object_in-object.ensures)
     ∙ ap (λ x. value_at x c.node_object_in-object.result) (sym seen.same) ∙ had.had in

@@ -1,30 +1,21 @@
 use Rattle.std.specs.Prelude.{Err}
-use Rattle.std.proofs.Common.{◌≡◌, ◌+◌, ◌≤◌, length, rules, arith, refl, sym, ◌∙◌, ap, subst}
+use Rattle.std.proofs.Common.{◌≡◌, rules, arith, refl, sym, ◌∙◌, ap, subst}
 use Rattle.dstm_model.specs.declared.reply.Reply.TheVariants.{Yes}
 use Rattle.dstm_model.specs.Map.{value_at}
 use Rattle.dstm_model.specs.Objects.{free_object}
 use Rattle.dstm_mem.specs.Memory.{with_set}
-use Rattle.dstm_mem.proofs.Operations.{only_reads-none, opens_to_set-none}
-use Rattle.dstm_mem.proofs.Operating.{untouched-none, operates-then, operates-ended}
-use Rattle.dstm_mem.proofs.WithSet.{length-with_set}
-use Rattle.dstm_region.specs.Region.{IsInside, size_of}
+use Rattle.dstm_mem.proofs.Operating.{operates-then, operates-ended}
+use Rattle.dstm_region.specs.Region.{IsInside}
 use Rattle.dstm_list.specs.Edits.{TakesOut}
 use Rattle.dstm_list.proofs.Operations.{does-no_remove, does-remove}
 use Rattle.dstm_list.proofs.Steps.{next_within, node-of_list}
-use Rattle.dstm_list.proofs.Walked.{operates-at, set-known}
+use Rattle.dstm_list.proofs.Walked.{inside_map, operates-at, operates-still, set-known}
 use Rattle.dstm_list.proofs.edit.remove_at.Goals as goal
 
 pub returns-in_default-clause-applies : goal.returns-in_default-clause-applies
 returns-in_default-clause-applies g c =
-    let M = g.M.Mem in
-    record {
-      leads = search rules;
-      outside = λ o out. untouched-none M c.args.mem.now o;
-      marks = λ all. opens_to_set-none M c.args.mem.now;
-      quiet = λ look. only_reads-none M c.args.mem.now;
-      does = λ map admitted. does-no_remove c.args.key c.args.place (c.requires.ready.found map admitted)
-          c.in_default.is;
-    }
+    operates-still c.requires.ready.admits c.requires.ready.ready.live (λ map admitted.
+    does-no_remove c.args.key c.args.place (c.requires.ready.found map admitted) c.in_default.is)
 
 pub replace-requires-2-clause-inside : goal.replace-requires-2-clause-inside
 replace-requires-2-clause-inside g c =
@@ -39,26 +30,21 @@ pub returns-clause-applies : goal.returns-clause-applies
 returns-clause-applies g c =
     let M = g.M.Mem in
     let region = c.args.region in
-    let begin = region.first in
     let start = c.args.mem.now in
-    let place = c.args.place in
-    let found = c.in-Some.node in
-    let free_is : c.node_object_in-free.result ≡ free_object begin = omega (arith, c.node_object_in-free.ensures) in
+    let free_is : c.node_object_in-free.result ≡ free_object region.first = omega (arith, c.node_object_in-free.ensures) in
     let freed = operates-then c.in_ok-rest.ensures.sets c.in_ok-replace.ensures.sets in
     operates-at (operates-then freed c.in_ok-replace-2.ensures.sets) (λ other. absurd (other refl))
     (λ all. ((tt, tt), tt)) (λ map admitted h.
     let before = with_set map (M.written start) in
-    let size = g.met.M.Mem.admitted_length start map admitted in
-    let in_map : region.first + size_of region ≤ length before =
-    omega (arith, size, c.requires.ready.ready.objects, length-with_set map (M.written start)) in
+    let in_map = inside_map region map (M.written start) (g.met.M.Mem.admitted_length start map admitted)
+    c.requires.ready.ready.objects in
     let had = ap (value_at before) (sym free_is) ∙ h.first.first.had in
     let one = set-known h.first.first.set refl free_is c.value.ensures in
     let two = set-known h.first.second.set one c.node_object_in-object.ensures refl in
     let three = set-known h.second.set two refl c.value-2.ensures in
     subst (λ after. TakesOut region c.args.key Yes before after) (sym three)
-    (does-remove c.args.key place found c.in_ok-rest.rest c.requires.fits.some in_map (c.requires.ready.found map
-    admitted)
-    c.in-Some.is c.requires.ready.link had))
+    (does-remove c.args.key c.args.place c.in-Some.node c.in_ok-rest.rest c.requires.fits.some in_map
+    (c.requires.ready.found map admitted) c.in-Some.is c.requires.ready.link had))
 
 pub returns-clause-few : goal.returns-clause-few
 returns-clause-few g c =
