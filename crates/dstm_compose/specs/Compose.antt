@@ -1,6 +1,6 @@
 -- What a job with branches does on a map: what the branch that is taken does, or nothing.
 use Rattle.std.specs.Prelude.{◌≡◌, ◌<◌, ℕ, Bool, true, false, nat_le, List, [], ◌∷◌, All, Contains, Option, Some, None}
-use Rattle.std.specs.Prelude.{IsSomeAnd, if◌then◌else◌}
+use Rattle.std.specs.Prelude.{IfSome, IsSomeAnd, if◌then◌else◌}
 use Rattle.dstm_model.specs.declared.value.Val.{Val}
 use Rattle.dstm_model.specs.declared.layout.Layout.{Layout}
 use Rattle.dstm_model.specs.declared.op.Cond.{Cond}
@@ -15,6 +15,7 @@ use Rattle.dstm_model.specs.Job.{JobOutcome, apply_job, branches_of, is_open, op
 use Rattle.dstm_store.specs.declared.job.JobTask.{JobTask}
 use Rattle.dstm_store.specs.Whole.{StandsFor}
 use Rattle.dstm_store.specs.Concerns.{Concerns}
+use Rattle.dstm_store.specs.Opens.{OnlyLooksAt, SetsIfOpened}
 use Rattle.dstm_compose.specs.declared.body.Outcome.{Outcome}
 use Rattle.dstm_compose.specs.declared.body.Outcome.TheVariants.{Ran, Blocked}
 
@@ -61,6 +62,24 @@ pub record Audits (task : JobTask) (outcome : Outcome) (account : ℕ) : Type 0 
 abbrev pub AuditsIn : JobTask → Store → ℕ → Type 0
 AuditsIn task store account =
     IsSomeAnd (open_branch task.ops store) (λ branch. Contains branch Total) × (account < task.layout.accounts)
+
+-- the replies that a job which ends so has
+abbrev pub replies_of : Outcome → List Reply
+replies_of Blocked = []
+replies_of (Ran replies) = replies
+
+-- of the branch that is open in this store, each operation that is about object o is a look, by its reply
+abbrev pub OnlyLooksIn : JobTask → Store → Outcome → ℕ → Type 0
+OnlyLooksIn task store outcome o =
+    IfSome (open_branch task.ops store)
+    (λ branch. OnlyLooksAt (record { layout = task.layout; ops = branch }) (replies_of outcome) o)
+
+-- of the branch that is open in this store, each operation that is about object o sets whatever it newly opens for
+-- writing, by its reply
+abbrev pub SetsIfOpenedIn : JobTask → Store → Outcome → ℕ → Type 0
+SetsIfOpenedIn task store outcome o =
+    IfSome (open_branch task.ops store)
+    (λ branch. SetsIfOpened (record { layout = task.layout; ops = branch }) (replies_of outcome) o)
 
 -- the condition that a branch begins with
 abbrev pub condition_of : List Op → Option Cond

@@ -7,7 +7,9 @@ ghost use Rattle.dstm_mem.specs.Memory.{with_set};
 ghost use Rattle.dstm_mem.specs.Operates.{IsUntouched};
 ghost use Rattle.dstm_mem.specs.Operations.{IsFresh, IsReady, Leads, OnlyReads};
 ghost use Rattle.dstm_store.specs.Whole.{StandsFor, IsLawful};
+ghost use Rattle.dstm_store.specs.Opens.{IsOnlyRead, IsOpenedToSet};
 ghost use Rattle.dstm_compose.specs.Compose.{IsRight, Audits, AuditsIn, IsAwaited, IsForeign, KeepsOut};
+ghost use Rattle.dstm_compose.specs.Compose.{OnlyLooksIn, SetsIfOpenedIn};
 
 use crate::branch::open_branch;
 use dstm_mem::{Body, Mem};
@@ -90,7 +92,8 @@ impl Body<StoreLaw> for CompBody {
         × KeepsOut body.task held opened };
 
     // The clauses of the trait, that a run which ends blocked has only read, and only what its job's conditions are
-    // about, and that a total of the branch that is taken reads every account.
+    // about, that a total of the branch that is taken reads every account, and what this branch sets and opens for
+    // writing.
     fn run<M: Mem>(&mut self, mem: &mut M) -> Result<(), M::Err>
         requires fresh { IsFresh M.Mem mem.old }
         requires lawful { (map : List Val) → M.Admits mem.old map → IsLawful self.old.task.layout map }
@@ -111,6 +114,12 @@ impl Body<StoreLaw> for CompBody {
         ensures totals { OnOk result ((map : List Val) → M.Admits mem.new map → (store : Store) →
             StandsFor self.new.task.layout map store → (o : ℕ) → AuditsIn self.new.task store o →
             IsSome (M.held mem.new o)) }
+        ensures quiet { OnOk result ((map : List Val) → M.Admits mem.new map → (store : Store) →
+            StandsFor self.new.task.layout map store → (o : ℕ) →
+            OnlyLooksIn self.new.task store self.new.outcome o → IsOnlyRead M.Mem o mem.old mem.new) }
+        ensures marks { OnOk result ((map : List Val) → M.Admits mem.new map → (store : Store) →
+            StandsFor self.new.task.layout map store → (o : ℕ) →
+            SetsIfOpenedIn self.new.task store self.new.outcome o → IsOpenedToSet M.Mem o mem.old mem.new) }
     {
         self.outcome = run_job(mem, &self.task.layout, self.task.ops.as_slice())?;
         Ok(())
@@ -141,6 +150,14 @@ fn run_job<M: Mem>(mem: &mut M, layout: &Layout, ops: &[Op]) -> Result<Outcome, 
         AuditsIn (record { layout = layout.now; ops = ops.now }) store o → IsSome (M.held mem.new o)) }
     ensures outside { OnOk result ((o : ℕ) → IsForeign (record { layout = layout.now; ops = ops.now }) o →
         IsUntouched M.Mem o mem.old mem.new) }
+    ensures quiet { IfOk result (λ outcome. (map : List Val) → M.Admits mem.new map → (store : Store) →
+        StandsFor layout.now (with_set map (M.written mem.old)) store → (o : ℕ) →
+        OnlyLooksIn (record { layout = layout.now; ops = ops.now }) store outcome o →
+        IsOnlyRead M.Mem o mem.old mem.new) }
+    ensures marks { IfOk result (λ outcome. (map : List Val) → M.Admits mem.new map → (store : Store) →
+        StandsFor layout.now (with_set map (M.written mem.old)) store → (o : ℕ) →
+        SetsIfOpenedIn (record { layout = layout.now; ops = ops.now }) store outcome o →
+        IsOpenedToSet M.Mem o mem.old mem.new) }
 
     ensures leads { Leads M.Mem mem.old mem.new result }
 {

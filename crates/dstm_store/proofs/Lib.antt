@@ -6,3 +6,4 @@ pub mod Unfolded
 pub mod One
 pub mod Bodies
 pub mod Few
+pub mod Opens

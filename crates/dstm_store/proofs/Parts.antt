@@ -58,28 +58,13 @@ is_of_tree (Get key) = true
 is_of_tree op = false
 
 bank_op : (op : Op) → is_of_bank op ≡ true → OfBank op
-bank_op (Transfer source target amount) is =
-    record { layout = λ store. grind arith; keys = λ store. grind arith; items = λ store. grind arith }
-bank_op (Balance account) is = record { layout = λ store. refl; keys = λ store. refl; items = λ store. refl }
-bank_op Total is = record { layout = λ store. refl; keys = λ store. refl; items = λ store. refl }
-bank_op op is = absurd (cc)
+bank_op op is = record { layout = λ store. grind arith; keys = λ store. grind arith; items = λ store. grind arith }
 
 list_op : (op : Op) → is_of_list op ≡ true → OfList op
-list_op (Insert which.List key) is =
-    record { layout = λ store. grind arith; balances = λ store. grind arith; items = λ store. grind arith }
-list_op (Remove which.List key) is = record { layout = λ store. refl; balances = λ store. refl; items = λ store. refl }
-list_op (Member which.List key) is = record { layout = λ store. refl; balances = λ store. refl; items = λ store. refl }
-list_op op is = absurd (cc)
+list_op op is = record { layout = λ store. grind arith; balances = λ store. grind arith; items = λ store. grind arith }
 
 tree_op : (op : Op) → is_of_tree op ≡ true → OfTree op
-tree_op (Insert which.Tree key) is =
-    record { layout = λ store. grind arith; balances = λ store. grind arith; keys = λ store. grind arith }
-tree_op (Remove which.Tree key) is = record { layout = λ store. refl; balances = λ store. refl; keys = λ store. refl }
-tree_op (Member which.Tree key) is = record { layout = λ store. refl; balances = λ store. refl; keys = λ store. refl }
-tree_op (Put key value) is =
-    record { layout = λ store. grind arith; balances = λ store. grind arith; keys = λ store. grind arith }
-tree_op (Get key) is = record { layout = λ store. refl; balances = λ store. refl; keys = λ store. refl }
-tree_op op is = absurd (cc)
+tree_op op is = record { layout = λ store. grind arith; balances = λ store. grind arith; keys = λ store. grind arith }
 
 -- ---- structures whose objects are unchanged
 

@@ -3,3 +3,4 @@ pub mod Opening
 pub mod Job
 pub mod Concerns
 pub mod Keeps
+pub mod Opens

@@ -1,4 +1,4 @@
-ghost use Rattle.std.specs.Prelude.{◌≡◌, ℕ, ◌<◌, ◌≤◌, List, [], length, true, false, All, IsSome, IfOk, OnOk};
+ghost use Rattle.std.specs.Prelude.{◌≡◌, ℕ, ◌<◌, ◌≤◌, List, [], length, true, false, All, IsSome, IfOk, IfErr, OnOk};
 ghost use Rattle.dstm_model.specs.declared.value.Val.{Val};
 ghost use Rattle.dstm_model.specs.Layout.{IsValid, FitsLayout};
 ghost use Rattle.dstm_model.specs.Store.{IsPlain};
@@ -10,6 +10,7 @@ ghost use Rattle.dstm_store.specs.Whole.{StandsFor, IsLawful};
 ghost use Rattle.dstm_store.specs.Job.{DoesAll, Audits, IsForeign, KeepsAtMost, KeepsOut};
 ghost use Rattle.dstm_store.specs.Concerns.{Concerns};
 ghost use Rattle.dstm_store.specs.Keeps.{is_of_list, most_kept, TouchesAtMost};
+ghost use Rattle.dstm_store.specs.Opens.{OnlyLooksAt, SetsIfOpened, IsOnlyRead, IsOpenedToSet};
 
 use crate::law::StoreLaw;
 use crate::lists::{KeepsReads, ListWalk};
@@ -94,7 +95,26 @@ impl<'a> Body<StoreLaw> for JobBody<'a> {
 
     ghost leaves = { λ job held opened. ((o : ℕ) → Audits job.task o → IsSome (held o)) × KeepsOut job.task held opened };
 
-    fn run<M: Mem>(&mut self, mem: &mut M) -> Result<(), M::Err> {
+    // The clauses of the trait, and which of its own objects a job sets and opens for writing.
+    fn run<M: Mem>(&mut self, mem: &mut M) -> Result<(), M::Err>
+        requires fresh { IsFresh M.Mem mem.old }
+        requires lawful { (map : List Val) → M.Admits mem.old map → IsLawful self.old.task.layout map }
+
+        ensures lawful { OnOk result ((map : List Val) → M.Admits mem.new map →
+            IsLawful self.new.task.layout (with_set map (M.written mem.new))) }
+        ensures right { OnOk result ((map : List Val) → M.Admits mem.new map →
+            DoesAll self.new.task map (with_set map (M.written mem.new)) self.new.replies) }
+        ensures leaves { OnOk result (((o : ℕ) → Audits self.new.task o → IsSome (M.held mem.new o))
+            × KeepsOut self.new.task (M.held mem.new) (M.is_opened mem.new)) }
+        ensures law { self.new.task.layout ≡ self.old.task.layout }
+        ensures task { self.new.task ≡ self.old.task }
+        ensures outcome { IfErr result (λ _. self.new.replies ≡ self.old.replies) }
+        ensures leads { Leads M.Mem mem.old mem.new result }
+        ensures quiet { OnOk result ((o : ℕ) → OnlyLooksAt self.new.task self.new.replies o →
+            IsOnlyRead M.Mem o mem.old mem.new) }
+        ensures marks { OnOk result ((o : ℕ) → SetsIfOpened self.new.task self.new.replies o →
+            IsOpenedToSet M.Mem o mem.old mem.new) }
+    {
         self.replies = run_fresh::<M, KeepsReads>(mem, self.layout, self.ops)?;
         Ok(())
     }
@@ -123,6 +143,11 @@ pub(crate) fn run_fresh<M: Mem, L: ListWalk<M>>(
         HoldsAtMost most (M.held mem.new)) }
     ensures outside { OnOk result (KeepsOut (record { layout = layout.now; ops = ops.now }) (M.held mem.new)
         (M.is_opened mem.new)) }
+    ensures quiet { IfOk result (λ replies. (o : ℕ) →
+        OnlyLooksAt (record { layout = layout.now; ops = ops.now }) replies o → IsOnlyRead M.Mem o mem.old mem.new) }
+    ensures marks { IfOk result (λ replies. (o : ℕ) →
+        SetsIfOpened (record { layout = layout.now; ops = ops.now }) replies o →
+        IsOpenedToSet M.Mem o mem.old mem.new) }
 
     ensures leads { Leads M.Mem mem.old mem.new result }
 {
@@ -155,6 +180,11 @@ pub fn run_all<M: Mem, L: ListWalk<M>>(
         HoldsAtMost most (M.held mem.new)) }
     ensures outside { OnOk result ((o : ℕ) → IsForeign (record { layout = layout.now; ops = ops.now }) o →
         IsUntouched M.Mem o mem.old mem.new) }
+    ensures quiet { IfOk result (λ replies. (o : ℕ) →
+        OnlyLooksAt (record { layout = layout.now; ops = ops.now }) replies o → IsOnlyRead M.Mem o mem.old mem.new) }
+    ensures marks { IfOk result (λ replies. (o : ℕ) →
+        SetsIfOpened (record { layout = layout.now; ops = ops.now }) replies o →
+        IsOpenedToSet M.Mem o mem.old mem.new) }
 
     ensures leads { Leads M.Mem mem.old mem.new result }
 {

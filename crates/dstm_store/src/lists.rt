@@ -2,8 +2,7 @@ ghost use Rattle.std.specs.Prelude.{◌≡◌, Bool, true, false, OnOk};
 ghost use Rattle.dstm_model.specs.declared.op.Which.TheVariants as which;
 ghost use Rattle.dstm_model.specs.Layout.{IsValid, FitsLayout};
 ghost use Rattle.dstm_model.specs.Objects.{objects_of};
-ghost use Rattle.dstm_mem.specs.Operations.{IsReady};
-ghost use Rattle.dstm_mem.specs.Operates.{Applies};
+ghost use Rattle.dstm_mem.specs.Operates.{Applies, IsReady};
 ghost use Rattle.dstm_list.specs.List.{IsList, IsOfList};
 ghost use Rattle.dstm_store.specs.Keeps.{TouchesAtMost};
 

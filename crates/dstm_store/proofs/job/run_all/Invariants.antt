@@ -8,6 +8,7 @@ use Rattle.dstm_mem.specs.Operations.{Leads}
 use Rattle.dstm_store.specs.Whole.{IsLawful}
 use Rattle.dstm_store.specs.Job.{DoesAll, IsForeign}
 use Rattle.dstm_store.specs.Keeps.{is_of_list, most_kept, TouchesAtMost}
+use Rattle.dstm_store.specs.Opens.{OnlyLooksAt, SetsIfOpened, IsOnlyRead, IsOpenedToSet}
 use Rattle.dstm_store.proofs.Jobs.{up_to}
 use Rattle.dstm_store.proofs.job.run_all.Given as goal
 
@@ -27,4 +28,8 @@ invariant-loop-op g l = record {
       All (λ op. is_of_list op ≡ true) l.ops →
       TouchesAtMost (sum_by most_kept (take l.op-index l.ops)) g.M.Mem l.fn.mem l.mem;
   outside : (o : ℕ) → IsForeign (record { layout = l.layout; ops = l.ops }) o → IsUntouched g.M.Mem o l.fn.mem l.mem;
+  quiet : (o : ℕ) → OnlyLooksAt (up_to l.op-index (record { layout = l.layout; ops = l.ops })) l.replies o →
+      IsOnlyRead g.M.Mem o l.fn.mem l.mem;
+  marks : (o : ℕ) → SetsIfOpened (up_to l.op-index (record { layout = l.layout; ops = l.ops })) l.replies o →
+      IsOpenedToSet g.M.Mem o l.fn.mem l.mem;
 }

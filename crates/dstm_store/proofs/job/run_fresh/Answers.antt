@@ -3,6 +3,7 @@ use Rattle.dstm_model.specs.declared.value.Val.{Val}
 use Rattle.dstm_model.specs.declared.op.Op.{Op}
 use Rattle.dstm_mem.specs.Memory.{with_set}
 use Rattle.dstm_store.specs.Job.{DoesAll, IsForeign}
+use Rattle.dstm_store.specs.Opens.{OnlyLooksAt, SetsIfOpened}
 use Rattle.dstm_store.proofs.Bodies.{of-fresh}
 use Rattle.dstm_store.proofs.job.run_fresh.Goals as goal
 
@@ -23,3 +24,19 @@ returns-clause-right g c map admitted =
     (of-fresh g.M.Mem c.args.mem.now map
     (λ (before : List Val). DoesAll (record { layout = layout; ops = c.as_slice.result.now }) before after replies)
     c.requires.fresh (c.in_ok-replies.ensures.does map admitted))
+
+pub returns-clause-quiet : goal.returns-clause-quiet
+returns-clause-quiet g c o looks =
+    let layout = c.args.layout.now in
+    let replies = c.in_ok-replies.replies in
+    c.in_ok-replies.ensures.quiet o
+    (subst (λ (ops : List Op). OnlyLooksAt (record { layout = layout; ops = ops }) replies o)
+    (sym c.as_slice.ensures.value) looks)
+
+pub returns-clause-marks : goal.returns-clause-marks
+returns-clause-marks g c o sets =
+    let layout = c.args.layout.now in
+    let replies = c.in_ok-replies.replies in
+    c.in_ok-replies.ensures.marks o
+    (subst (λ (ops : List Op). SetsIfOpened (record { layout = layout; ops = ops }) replies o)
+    (sym c.as_slice.ensures.value) sets)
