@@ -1,25 +1,30 @@
 -- Where an object stands among what an attempt has open.
-use Rattle.std.proofs.Common.{◌&&◌, ◌+◌, ◌-◌, ◌<◌, ◌==◌, ◌∙◌, ◌≡◌, ◌≢◌, ◌⊎◌, List, None, Some, ap, arith, false, filter, find, length, length-set, refl, subst, sym, true, ℕ}
+use Rattle.std.proofs.Common.{◌&&◌, ◌+◌, ◌-◌, ◌<◌, ◌==◌, ◌∙◌, ◌≡◌, ◌≢◌, List, None, Some, ap, arith, false, filter, find, length, length-set, refl, subst, sym, true, ℕ}
 use Rattle.std.specs.Prelude.{IsSome, is_some, slice_index_or, slice_set}
 use Rattle.std.proofs.lemmas.List.{get_or_default}
 use Rattle.std.specs.Vec.{with_item}
 use Rattle.dstm_engine.proofs.Base.{ReadSlot, Val, WriteSlot}
 use Rattle.dstm_mem.proofs.Finding.{find_filter}
-use Rattle.dstm_mem.proofs.Slots.{finds_none, finds_one, one_less, only, part_here, part_kept, part_other, placed_alike, stands_there}
-use Rattle.dstm_mem.specs.Slots.{IsSlotOf}
+use Rattle.dstm_mem.proofs.Slots.{beside, finds_none, finds_one, looked, one_less, only, part_here, part_other, place_is, placed_alike, stands_there}
+use Rattle.dstm_mem.specs.Slots.{IsSlotOf, slot_in}
 use Rattle.dstm_engine.proofs.Slots.{drop_kept, length-without, set_slot_is, without_none}
-use Rattle.dstm_engine.specs.Opened.{HasPlaces, OpenedAs, is_kept, no_place, no_read, no_write, place_at, read_at, read_slot, reads_sort, with_set_slot, without_read, write_slot}
+use Rattle.dstm_engine.specs.Opened.{AreReadPlaces, AreWritePlaces, HasPlaces, OpenedAs, read_at, read_slot, with_set_slot, without_read, write_slot}
+use Rattle.dstm_steps.specs.Sorts.{is_kept, no_read, no_write, reads_sort}
+use Rattle.dstm_mem.specs.Slots.{no_place, place_at}
 use Rattle.dstm_engine.specs.declared.opened.Opened.TheInside.{Inside}
-use Rattle.dstm_engine.specs.declared.opened.Place.{Place}
+use Rattle.dstm_mem.specs.declared.places.Place.{Place}
 
--- Places are forgotten on one side, those of the objects of the first slots at least: each is forgotten or as it was, and
--- the other side is as it was.
-abbrev pub Forgotten : (side other : Place → ℕ) (object : ℕ → ℕ) (slots : ℕ) (places before : List Place) → Type 0
-Forgotten side other object slots places before = record {
-  done : (k : ℕ) → k < slots → side (place_at places (object k)) ≡ 0;
-  same : (o : ℕ) → (side (place_at places o) ≡ 0) ⊎ (side (place_at places o) ≡ side (place_at before o));
-  others : (o : ℕ) → other (place_at places o) ≡ other (place_at before o);
-}
+-- the slots that a call finds by what it has found at the object's place
+module _ (places : List Place) (o : ℕ) (below : o < length places) (place : Place)
+    (found : place ≡ slice_index_or places o place) where
+  pub found_read : (reads : List ReadSlot) → AreReadPlaces reads places →
+      slot_in reads place.read ≡ read_slot (filter is_kept reads) o
+  found_read reads p =
+      looked p o below place.read (ap (λ (q : Place). q.read) (place_is places o below place found))
+      ∙ sym (find_filter (λ (s : ReadSlot). s.object == o) is_kept reads)
+
+  pub found_write : (writes : List WriteSlot) → AreWritePlaces writes places → slot_in writes place.write ≡ write_slot writes o
+  found_write writes p = looked p o below place.write (ap (λ (q : Place). q.write) (place_is places o below place found))
 
 -- The object has this place, and contracts see what is open as this.
 pub record AtPlace (x : Inside) (k : OpenedAs) (o : ℕ) (place : Place) : Type 0 where
@@ -43,7 +48,7 @@ at_place x has k view o exists place found =
       has = has;
       view = view;
       below = below;
-      is = get_or_default x.places.items o no_place place below ∙ sym found;
+      is = place_is x.places.items o below place found;
     }
 
 module _ {x : Inside} {k : OpenedAs} {o : ℕ} {place : Place} (a : AtPlace x k o place) where
@@ -62,19 +67,9 @@ module _ {x : Inside} {k : OpenedAs} {o : ℕ} {place : Place} (a : AtPlace x k 
   pub unread : place.read ≡ 0 → None ≡ read_slot k.reads o
   unread none = sym (finds_none a.has.reads o a.below place.read read_is none) ∙ reads_seen
 
-  pub read_with : place.read ≢ 0 → (slot : ReadSlot) → slot ≡ slice_index_or x.reads.items (place.read - 1) slot →
-      Some slot ≡ read_slot k.reads o
-  read_with some slot found = sym (finds_one a.has.reads o a.below place.read read_is some slot found) ∙ reads_seen
-
   pub unopened : place.write ≡ 0 → None ≡ write_slot k.writes o
   unopened none =
       sym (finds_none a.has.writes o a.below place.write write_is none) ∙ ap (λ (y : OpenedAs). write_slot y.writes o) a.view
-
-  pub opened_with : place.write ≢ 0 → (slot : WriteSlot) → slot ≡ slice_index_or x.writes.items (place.write - 1) slot →
-      Some slot ≡ write_slot k.writes o
-  opened_with some slot found =
-      sym (finds_one a.has.writes o a.below place.write write_is some slot found)
-      ∙ ap (λ (y : OpenedAs). write_slot y.writes o) a.view
 
   -- a value is set where it is open for writing
   pub stands : IsSome (write_slot k.writes o) → place.write ≢ 0
@@ -131,8 +126,7 @@ module _ {x : Inside} {k : OpenedAs} {o : ℕ} {place : Place} (a : AtPlace x k 
               (λ y. (place_at (slice_set places o new) y).read)
               (part_here places no_place o new a.below (λ (y : Place). y.read))
               (part_other places no_place o new a.below (λ (y : Place). y.read))) _ _ wide (λ y. refl);
-          writes = placed_alike old.writes _ _ wide
-              (part_kept places no_place o new a.below (λ (y : Place). y.write) (ap (λ (y : Place). y.write) same));
+          writes = beside (λ (y : Place). y.write) places old.writes o a.below new (ap (λ (y : Place). y.write) same);
           room = ((let r = old.room.0 in omega arith), (let r = old.room.1 in omega arith));
           few = ((let f = old.few.0 in omega arith), (let f = old.few.1 in omega arith), (let f = old.few.2 in omega arith));
           counted = let c = old.counted in omega arith;

@@ -15,7 +15,7 @@ use Rattle.dstm_engine.proofs.Continuing.{kept_most}
 use Rattle.dstm_engine.proofs.Leaving.{not_made}
 use Rattle.dstm_engine.proofs.Locators.{unspent_enough}
 use Rattle.dstm_engine.proofs.Starting.{Ended, beginning_none, beginning_still, ended_is, ends_with_begin}
-use Rattle.dstm_engine.proofs.Tying.{EndsAt, EndsHere, mirror_then, olds_in, reads_in, renewed, state_logged, state_then}
+use Rattle.dstm_engine.proofs.Tying.{EndsAt, EndsHere, olds_in, placed_then, reads_in, renewed, state_logged, state_then}
 use Rattle.dstm_engine.specs.Attempts.{done}
 use Rattle.dstm_engine.specs.Beginnings.{ended}
 use Rattle.dstm_engine.specs.Callers.{Called, begun_log, held, is_running, state}
@@ -100,11 +100,7 @@ module _ {L : Type 0} {holds : L → List Val → Type 0} {c : Inside L} (v : Ti
 
     pub spent_tied : Tied holds (record c { steps = new; live = false })
     spent_tied = record {
-      seat = (u.view, u.seat.1);
-      run = u.run;
-      number = (v.number.0, ends.number ∙ v.number.1);
-      shape = u.shape;
-      mirror = mirror_then c u;
+      placed = placed_then c u v.number.0 (ends.number ∙ v.number.1);
       begun = ends.begun ∙ v.begun;
       phase = ends.outside;
       manager = (u.manager, v.manager.1);
@@ -166,11 +162,7 @@ module _ {L : Type 0} {holds : L → List Val → Type 0} {c : Inside L} (v : Ti
 
     pub anew_tied : is_spent c.terms.shape (state (called c)) ≡ false → Tied holds anew
     anew_tied enough = record {
-      seat = (u.view, u.seat.1);
-      run = u.run;
-      number = (v.number.0, ap (λ (l : LocalState). l.number) is_begun ∙ e.number ∙ v.number.1);
-      shape = u.shape;
-      mirror = mirror_then c u;
+      placed = placed_then c u v.number.0 (ap (λ (l : LocalState). l.number) is_begun ∙ e.number ∙ v.number.1);
       begun = ap (λ (l : LocalState). l.begun) is_begun ∙ ap (λ n. n + 1) (e.begun ∙ v.begun);
       phase = runs;
       manager = (u.manager, ap (λ (d : DeciderState). d.manager) took ∙ v.manager.0);

@@ -47,12 +47,14 @@ module _ {L : Type 0} (holds : L → List Val → Type 0) (k : Called L) where
       InTask holds k.home task (began_of task k) steps Done again → n.log ≡ (view_of steps.seat).log →
       n.generator ≡ steps.decider.generator → n.home ≡ k.home → n.number ≡ k.number → Performs holds task k n again
   performs n u log generator home number = record {
-    events = u.events;
-    own = ap (events_of k.number) log ∙ u.own;
-    call = (call_of u).0;
-    answers = sym (call_of u).1;
-    seen = subst (IsPastOf k.log) (sym log) u.seen;
-    run = subst (IsRunOf holds k.home.terms) (sym log) u.run;
-    generator = generator ∙ sym (ap (λ (e : Effort). e.generator) u.effort);
+    acts = record {
+      events = u.events;
+      own = ap (events_of k.number) log ∙ u.own;
+      call = (call_of u).0;
+      answers = sym (call_of u).1;
+      seen = subst (IsPastOf k.log) (sym log) u.seen;
+      run = subst (IsRunOf holds k.home.terms) (sym log) u.run;
+      generator = generator ∙ sym (ap (λ (e : Effort). e.generator) u.effort);
+    };
     same = (home, number);
   }

@@ -30,13 +30,15 @@ enrols {L = L} {holds = holds} f {g = g} seed {found = found} {p = p} {w = w} {k
       log = m.log;
       own = m.mine;
       steps = record {
-        events = e ∷ [];
-        own = m.mine ∙ ap (λ xs. e ∷ xs) (sym none);
-        call = enrolling f.home.terms.shape _ e refl new;
-        answers = refl;
-        seen = record { later = e ∷ m.log.0; whole = sym m.log.1 };
-        run = subst (λ (o : Option (Terms L)). IfSome o (λ (t : Terms L). IsRunOf holds t w.log)) terms m.run;
-        generator = refl;
+        acts = record {
+          events = e ∷ [];
+          own = m.mine ∙ ap (λ xs. e ∷ xs) (sym none);
+          call = enrolling f.home.terms.shape _ e refl new;
+          answers = refl;
+          seen = record { later = e ∷ m.log.0; whole = sym m.log.1 };
+          run = subst (λ (o : Option (Terms L)). IfSome o (λ (t : Terms L). IsRunOf holds t w.log)) terms m.run;
+          generator = refl;
+        };
         same = (refl, refl);
       };
     })

@@ -171,18 +171,6 @@ beginning_looks s fresh l g (e ∷ es) obeys =
 -- ---- the events of a commit
 
 module _ (v : ℕ → Val) where
-  -- what may be due in a commit: it checks only after its Draw
-  abbrev MayCome : LocalState → Due → Type 0
-  MayCome l (Step PutHigh n) = Unit {0}
-  MayCome l (Step PutNew n) = Unit {0}
-  MayCome l (Step ToValidating n) = Unit {0}
-  MayCome l (Step Draw n) = Unit {0}
-  MayCome l (Step Check n) = l.phase ≡ Drawn
-  MayCome l (Step Commit n) = Unit {0}
-  MayCome l (Step Quit n) = Unit {0}
-  MayCome l (Step k n) = ⊥
-  MayCome l Done = Unit {0}
-
   -- an event of a commit, and the state that it leaves
   abbrev Came : Kind → LocalState → Type 0
   Came PutHigh l = Unit {0}
@@ -194,6 +182,12 @@ module _ (v : ℕ → Val) where
   Came Quit l = Unit {0}
   Came k l = ⊥
 
+  -- what may be due in a commit: it checks only after its Draw
+  abbrev MayCome : LocalState → Due → Type 0
+  MayCome l (Step Draw n) = Unit {0}
+  MayCome l (Step k n) = Came k l
+  MayCome l Done = Unit {0}
+
   abbrev CameLast : Option Event → LocalState → Type 0
   CameLast None l = Unit {0}
   CameLast (Some e) l = Came e.kind l
@@ -202,13 +196,10 @@ module _ (v : ℕ → Val) where
       MayCome l (next k e (Committing v) m l f)
   next_comes PutHigh e m l f came = put_by (MayCome l) (Committing v) l tt tt (λ n. tt) (λ n. tt)
   next_comes PutNew e m l f came = put_by (MayCome l) (Committing v) l tt tt (λ n. tt) (λ n. tt)
-  next_comes ToValidating e m l f came = tt
   next_comes Draw e m l f came = checking_by (MayCome l) l tt came
   next_comes Check e m l f came =
       subst (λ (p : Phase). MayCome l (in_checks p l)) (sym came) (checking_by (MayCome l) l tt came)
-  next_comes Commit e m l f came = tt
-  next_comes Quit e m l f came = tt
-  next_comes k e m l f came = absurd came
+  next_comes k e m l f came = first_of (assumption tt, grind arith)
 
   first_comes : (o : Option Event) (m : Manager) (l : LocalState) (f : Effort) → CameLast o l →
       MayCome l (next_or_first o (Committing v) m l f)
@@ -219,25 +210,13 @@ module _ (v : ℕ → Val) where
   comes s l e (Step k n) may is = subst (λ (k : Kind). Came k (after k s l e)) (sym is.0) (by k may)
     where
       by : (k : Kind) → MayCome l (Step k n) → Came k (after k s l e)
-      by PutHigh may = tt
-      by PutNew may = tt
-      by ToValidating may = tt
       by Draw may = refl
-      by Check may = may
-      by Commit may = tt
-      by Quit may = tt
-      by k may = absurd may
+      by k may = may
   comes s l e Done may is = absurd is
 
   no_look : (k : Kind) (l : LocalState) → Came k l → is_look_self k ≡ false
-  no_look PutHigh l came = refl
-  no_look PutNew l came = refl
-  no_look ToValidating l came = refl
-  no_look Draw l came = refl
-  no_look Check l came = refl
-  no_look Commit l came = refl
-  no_look Quit l came = refl
-  no_look k l came = absurd came
+  no_look LookSelf l came = absurd came
+  no_look k l came = refl
 
   commit_comes : (s : Shape) (l : LocalState) (g : Lcg) (es : List Event) → Obeys (Doing (Committing v)) s l g es →
       NoSelf es × CameLast (newest_of es) (state_after s l es)

@@ -55,13 +55,15 @@ none_holds (Some x) P h = absurd (cc)
 pub left_already : {L : Type 0} {holds : L → List Val → Type 0} (k : Called L) → IsRunOf holds k.home.terms k.log →
     (state k).phase ≡ Outside → Performs holds Leaving k k None
 left_already k run ph = record {
-  events = [];
-  own = refl;
-  call = stays_out (shape_of k) (state k) k.generator ph;
-  answers = refl;
-  seen = record { later = []; whole = refl };
-  run = run;
-  generator = refl;
+  acts = record {
+    events = [];
+    own = refl;
+    call = stays_out (shape_of k) (state k) k.generator ph;
+    answers = refl;
+    seen = record { later = []; whole = refl };
+    run = run;
+    generator = refl;
+  };
   same = (refl, refl);
 }
 
@@ -81,12 +83,14 @@ module _ {L : Type 0} {holds : L → List Val → Type 0} (k : Called L) {w : Vi
 
   pub quits : (state k).phase ≡ Running → Performs holds Leaving k (record k { log = w.log }) None
   quits ph = record {
-    events = made (seat_view k) (Exchange 1 5) Quit p found ∷ [];
-    own = m.mine;
-    call = leaving (shape_of k) (state k) k.generator (made (seat_view k) (Exchange 1 5) Quit p found) refl ph;
-    answers = refl;
-    seen = record { later = made (seat_view k) (Exchange 1 5) Quit p found ∷ m.log.0; whole = sym m.log.1 };
-    run = quit_run;
-    generator = refl;
+    acts = record {
+      events = made (seat_view k) (Exchange 1 5) Quit p found ∷ [];
+      own = m.mine;
+      call = leaving (shape_of k) (state k) k.generator (made (seat_view k) (Exchange 1 5) Quit p found) refl ph;
+      answers = refl;
+      seen = record { later = made (seat_view k) (Exchange 1 5) Quit p found ∷ m.log.0; whole = sym m.log.1 };
+      run = quit_run;
+      generator = refl;
+    };
     same = (refl, refl);
   }

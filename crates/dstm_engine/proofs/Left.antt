@@ -25,7 +25,7 @@ use Rattle.dstm_progress.proofs.Calls.{alone_is_committed}
 use Rattle.dstm_progress.specs.Oldest.{AreMade}
 use Rattle.dstm_engine.proofs.Calling.{performs}
 use Rattle.dstm_engine.proofs.Lasting.{Lasts, call_lasts}
-use Rattle.dstm_engine.proofs.Tying.{EndsHere, live_there, mirror_then, olds_in, reads_in, state_logged}
+use Rattle.dstm_engine.proofs.Tying.{EndsHere, live_there, olds_in, placed_then, reads_in, state_logged}
 use Rattle.dstm_engine.specs.Attempts.{Sighted, done}
 use Rattle.dstm_engine.specs.Opened.{OpenedAs}
 use Rattle.dstm_engine.specs.Mirror.{AtRest, Tied, called, phase_by, set_pairs, slot_old, slot_value, slot_word}
@@ -305,11 +305,7 @@ module _ {L : Type 0} {holds : L → List Val → Type 0} {c : Inside L} (v : Ti
       × Promises (called (over_as c new last answer fresh opened)) again) →
       IsTold (called (over_as c new last answer fresh opened)) → Tied holds (over_as c new last answer fresh opened)
   over_tied last fresh opened objects out same ended told = record {
-    seat = (u.view, u.seat.1);
-    run = u.run;
-    number = (v.number.0, number_then);
-    shape = u.shape;
-    mirror = mirror_then c u;
+    placed = placed_then c u v.number.0 number_then;
     begun = begun_there ∙ v.begun;
     phase = out;
     manager = (u.manager, v.manager.1);
@@ -343,11 +339,7 @@ module _ {L : Type 0} {holds : L → List Val → Type 0} {c : Inside L} (v : Ti
       olds_in c (view_of new.seat).log (state_logged c new).writes ≡ map slot_old opened.writes →
       opened.objects ≡ c.opened.objects → Tied holds (record c { steps = new; last_number = last; opened = opened })
   on_tied {last = last} opened runs undone passed rest told sighted reads values writes olds objects = record {
-    seat = (u.view, u.seat.1);
-    run = u.run;
-    number = (v.number.0, number_then);
-    shape = u.shape;
-    mirror = mirror_then c u;
+    placed = placed_then c u v.number.0 number_then;
     begun = begun_there ∙ v.begun;
     phase = runs ∙ ap phase_by (sym live);
     manager = (u.manager, v.manager.1);

@@ -67,20 +67,15 @@ record HasPut (k : Kind) (at_place put : ℕ) (es : List Event) : Type 0 where
   event : Event
   before : List Event
   whole : es ≡ later ++ event ∷ before
-  kind : event.kind ≡ k
-  place : event.place ≡ at_place
-  put_is : event.put ≡ put
+  is : (event.kind ≡ k) × (event.place ≡ at_place) × (event.put ≡ put)
+
+-- the newest event has, or an earlier one
+put_here : {k : Kind} {p n : ℕ} (e : Event) (es : List Event) → e.kind ≡ k → e.place ≡ p → e.put ≡ n → HasPut k p n (e ∷ es)
+put_here e es kind place put = record { later = []; event = e; before = es; whole = refl; is = (kind, place, put) }
 
 put_more : {k : Kind} {p n : ℕ} (e : Event) {es : List Event} → HasPut k p n es → HasPut k p n (e ∷ es)
-put_more e h = record {
-  later = e ∷ h.later;
-  event = h.event;
-  before = h.before;
-  whole = ap (λ xs. e ∷ xs) h.whole;
-  kind = h.kind;
-  place = h.place;
-  put_is = h.put_is;
-}
+put_more e h =
+    record { later = e ∷ h.later; event = h.event; before = h.before; whole = ap (λ xs. e ∷ xs) h.whole; is = h.is }
 
 -- an attempt that validates, or has committed, has put all its values
 record IsReady (l : LocalState) : Type 0 where
@@ -169,15 +164,8 @@ module _ (v : ℕ → Val) (s : Shape) (ws : List Write) where
   put_step l e es PutHigh is p a hi lo x = record {
     low = λ j lt. put_more e (x.low j lt);
     high = λ j lt. put_more e (x.high j lt);
-    half = λ z. record {
-      later = [];
-      event = e;
-      before = es;
-      whole = refl;
-      kind = is;
-      place = a.0 ∙ ap (λ (w : Write). place s (HighWord w.locator)) (next_is l x.same);
-      put_is = hi refl ∙ ap (λ (w : Write). (v w.object).high) (next_is l x.same);
-    };
+    half = λ z. put_here e es is (a.0 ∙ ap (λ (w : Write). place s (HighWord w.locator)) (next_is l x.same))
+        (hi refl ∙ ap (λ (w : Write). (v w.object).high) (next_is l x.same));
     same = x.same;
     is_ready = ready_step v s e PutHigh p a x.is_ready;
   }
@@ -195,15 +183,8 @@ module _ (v : ℕ → Val) (s : Shape) (ws : List Write) where
       lows j (inr ge) up =
           let at_j : l.written ≡ j = omega arith in
           let w : next_write l ≡ nth ws j = next_is l x.same ∙ ap (nth ws) at_j in
-          record {
-            later = [];
-            event = e;
-            before = es;
-            whole = refl;
-            kind = is;
-            place = a.0 ∙ ap (λ (w : Write). place s (LowWord w.locator)) w;
-            put_is = lo refl ∙ ap (λ (w : Write). (v w.object).low) w;
-          }
+          put_here e es is (a.0 ∙ ap (λ (w : Write). place s (LowWord w.locator)) w)
+          (lo refl ∙ ap (λ (w : Write). (v w.object).low) w)
 
       highs : (j : ℕ) → (j < l.written) ⊎ (l.written ≤ j) → j < l.written + 1 →
           HasPut PutHigh (place s (HighWord (nth ws j).locator)) (v (nth ws j).object).high (e ∷ es)
@@ -255,12 +236,12 @@ put_stands s c log rest {k = k} core own kind x =
     let d = x.event in
     let here = own_at c log x.later (x.before ++ rest) d
     (own ∙ ap (λ xs. xs ++ rest) x.whole ∙ append_assoc x.later (d ∷ x.before) rest) in
-    ap (at log) (sym x.place) ∙ ap (λ xs. at xs d.place) here.2
-    ∙ put_stays s here.0 here.1 d (subst (Core s) here.2 core) (either kind) ∙ x.put_is
+    ap (at log) (sym x.is.1) ∙ ap (λ xs. at xs d.place) here.2
+    ∙ put_stays s here.0 here.1 d (subst (Core s) here.2 core) (either kind) ∙ x.is.2
   where
     either : (k ≡ PutHigh) ⊎ (k ≡ PutNew) → (x.event.kind ≡ PutHigh) ⊎ (x.event.kind ≡ PutNew)
-    either (inl q) = inl (x.kind ∙ q)
-    either (inr q) = inr (x.kind ∙ q)
+    either (inl q) = inl (x.is.0 ∙ q)
+    either (inr q) = inr (x.is.0 ∙ q)
 
 abbrev pub given_values : (ℕ → Val) → List Write → List (ℕ × Val)
 given_values v ws = map (λ (w : Write). (w.object, v w.object)) ws

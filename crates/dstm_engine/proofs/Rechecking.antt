@@ -1,5 +1,5 @@
 -- A recheck that has not left its attempt, and what a log tells of the values that are held.
-use Rattle.std.proofs.Common.{◌++◌, ◌<◌, ◌==◌, ◌∙◌, ◌∷◌, ◌≡◌, ◌≢◌, List, None, Some, [], ap, arith, false, inl, inr, length, refl, subst, sym, true, ℕ}
+use Rattle.std.proofs.Common.{◌++◌, ◌<◌, ◌==◌, ◌∙◌, ◌∷◌, ◌≡◌, ◌≢◌, List, None, Some, [], ap, append_assoc, arith, false, inl, inr, length, refl, subst, sym, true, ℕ}
 use Rattle.std.proofs.lemmas.List.{append_cancel_right}
 use Rattle.std.specs.Prelude.{IfSome, ◌||◌}
 use Rattle.std.proofs.lemmas.Bool.{cases_Bool, cond_both, eq-eqb, eqb-true}
@@ -11,10 +11,10 @@ use Rattle.dstm_progress.proofs.OwnEvents.{after_own}
 use Rattle.std.specs.Prelude.{◌+◌, if◌then◌else◌}
 use Rattle.std.proofs.Common.{length-append}
 use Rattle.std.proofs.lemmas.List.Elements.{filter-append}
-use Rattle.dstm_engine.proofs.Base.{Check, Commit, Core, Doing, Done, Draw, Effort, Event, IsDue, IsSight, Kind, Lcg, LocalState, LookNumber, LookSelf, MAX_MISSED, Obeys, Outside, PutHigh, PutNew, Quit, Read, Rechecking, Running, Shape, Val, after, count_of, due, due_after, effort_of, entry_of, events_of, given, is_outside, just, local, newest_of, next, old_values, read_values, seen, state_after, value_in}
+use Rattle.dstm_engine.proofs.Base.{Check, Commit, Core, Doing, Done, Draw, Effort, Event, IsDue, Kind, Lcg, LocalState, LookNumber, LookSelf, MAX_MISSED, Obeys, Outside, PutHigh, PutNew, Quit, Read, Rechecking, Running, Shape, Val, after, count_of, due, due_after, effort_of, entry_of, events_of, given, is_outside, just, local, newest_of, next, old_values, read_values, seen, state_after, value_in}
 use Rattle.dstm_progress.proofs.StaleReads.{not_quit}
 use Rattle.dstm_progress.proofs.Calls.{nothing_due}
-use Rattle.dstm_engine.specs.Attempts.{Sighted, completes_pass, is_look_self}
+use Rattle.dstm_engine.specs.Attempts.{SightAt, Sighted, completes_pass, is_look_self}
 use Rattle.dstm_engine.specs.Callers.{Called, shape_of, start_of, state}
 use Rattle.dstm_engine.proofs.Plain.{are_plain, is_plain}
 
@@ -82,14 +82,24 @@ sight_keeps s l e LookSelf q =
 sight_keeps s l e k q = absurd (cc)
 
 -- the newest event of a log is a sight of its caller's attempt, which covers what this holds
-pub record EndsInSight (s : Shape) (start : List Val) (c : ℕ) (log : List Event) : Type 0 where
-  pub sight : Event
-  pub before : List Event
-  pub is : log ≡ sight ∷ before
-  pub is_one : IsSight s before sight
-  pub caller : sight.caller ≡ c
-  pub attempt : (local s before c).begun ≡ (local s log c).begun
-  pub covers : (entry_of s start log (local s log c)).reads ≡ seen s start log before c
+pub record EndsInSight (s : Shape) (start : List Val) (c : ℕ) (events : List Event) : Type 0 where
+  pub place : SightAt s events c (local s events c).begun
+  pub open place use *
+  pub is : events ≡ sight ∷ before
+  pub covers : (entry_of s start events (local s events c)).reads ≡ seen s start events before c
+
+-- a sight in a log stands in one that has gone on
+abbrev pub in_later : {s : Shape} {old log : List Event} {c i j : ℕ} (later : List Event) → log ≡ later ++ old → i ≡ j →
+    SightAt s old c i → SightAt s log c j
+in_later later goes same x = record {
+  later = later ++ x.later;
+  sight = x.sight;
+  before = x.before;
+  log = goes ∙ ap (λ xs. later ++ xs) x.log ∙ sym (append_assoc later x.later (x.sight ∷ x.before));
+  is_one = x.is_one;
+  caller = x.caller;
+  attempt = x.attempt ∙ same;
+}
 
 -- a log whose newest event is a LookSelf that found the status given last
 pub ends_in_sight : (s : Shape) (start : List Val) (c : ℕ) {log : List Event} (before : List Event) (e : Event) → log
@@ -102,12 +112,16 @@ ends_in_sight s start c {log = log} before e is own kind found =
     ap (λ xs. local s xs c) is ∙ ap (local s (e ∷ before)) (sym own) ∙ local_own s before e in
     let was : l ≡ local s before c = ap (local s before) own in
     record {
-      sight = e;
-      before = before;
+      place = record {
+        later = [];
+        sight = e;
+        before = before;
+        log = is;
+        is_one = record { kind = kind; found = found ∙ ap (λ n. given (local s before n).phase) (sym own) };
+        caller = own;
+        attempt = sym (ap (λ (m : LocalState). m.begun) now ∙ keeps.2 ∙ ap (λ (m : LocalState). m.begun) was);
+      };
       is = is;
-      is_one = record { kind = kind; found = found ∙ ap (λ n. given (local s before n).phase) (sym own) };
-      caller = own;
-      attempt = sym (ap (λ (m : LocalState). m.begun) now ∙ keeps.2 ∙ ap (λ (m : LocalState). m.begun) was);
       covers = rw (now, keeps.0, keeps.1, was) refl;
     }
 
@@ -148,13 +162,7 @@ recheck_sights s start c log old g (e ∷ es) obeys done top own run none zero =
 
 pub sighted_of : {L : Type 0} (k : Called L) → EndsInSight (shape_of k) (start_of k) k.number k.log → Sighted k
 sighted_of k x = record {
-  later = [];
-  sight = x.sight;
-  before = x.before;
-  log = x.is;
-  is_one = x.is_one;
-  caller = x.caller;
-  attempt = x.attempt;
+  place = x.place;
   newest = ap (λ xs. count_of completes_pass (shape_of k) xs k.number (state k).begun) x.is;
   covers = λ o v is. ap (λ ps. value_in ps o) (sym x.covers) ∙ is;
 }

@@ -16,7 +16,7 @@ use Rattle.dstm_engine.proofs.Opens.{none_of}
 use Rattle.dstm_engine.proofs.Setting.{opened_there}
 use Rattle.dstm_engine.proofs.Steady.{stay}
 use Rattle.dstm_engine.proofs.Tying.{EndsHere, live_there, olds_in, reads_in, state_then}
-use Rattle.dstm_engine.proofs.Rechecking.{NoSelf, none_counted}
+use Rattle.dstm_engine.proofs.Rechecking.{NoSelf, in_later, none_counted}
 use Rattle.dstm_engine.specs.Attempts.{Admits, Sighted, completes_pass, is_look_self, sights}
 use Rattle.dstm_engine.specs.Callers.{held, is_opened, state}
 use Rattle.dstm_engine.specs.Calls.{IsTold, Performs}
@@ -282,13 +282,7 @@ module _ {L : Type 0} {holds : L → List Val → Type 0} {c : Inside L} (v : Ti
       ≡ seen c.terms.shape c.terms.start.value.items (x.later ++ x.sight ∷ x.before) x.before n) x.caller stays
       ∙ ap (λ xs. seen c.terms.shape c.terms.start.value.items xs x.before c.number) (sym x.log) in
       record {
-        later = u.seen.later ++ x.later;
-        sight = x.sight;
-        before = x.before;
-        log = log ∙ sym (append_assoc u.seen.later x.later (x.sight ∷ x.before));
-        is_one = x.is_one;
-        caller = x.caller;
-        attempt = x.attempt ∙ sym (ap (λ (l : LocalState). l.begun) then_is);
+        place = in_later u.seen.later (sym u.seen.whole) (sym (ap (λ (l : LocalState). l.begun) then_is)) x.place;
         newest = newest x;
         covers = λ p w held. ap (λ ps. value_in ps p) same ∙ covered x p w held (cases_eq p o);
       }

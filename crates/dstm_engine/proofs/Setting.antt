@@ -1,5 +1,5 @@
 -- A value that is set.
-use Rattle.std.proofs.Common.{◌++◌, ◌==◌, ◌∙◌, ◌∷◌, ◌≡◌, ◌≢◌, ◌⊎◌, Bool, List, None, Option, Some, [], ap, cond, false, inl, inr, map, refl, subst, sym, true, ℕ}
+use Rattle.std.proofs.Common.{◌++◌, ◌==◌, ◌∙◌, ◌∷◌, ◌≡◌, ◌≢◌, Bool, List, None, Option, Some, [], ap, cond, false, inl, inr, map, refl, sym, true, ℕ}
 use Rattle.std.specs.Prelude.{IfSome, is_some}
 use Rattle.std.proofs.lemmas.Bool.{cases_Bool, cond_both, eqb-true, ne_eqb}
 use Rattle.dstm_engine.proofs.Base.{AreWrites, SetsOnly, Val, Write, WriteSlot, value_in, write_of}
@@ -93,11 +93,7 @@ pub stays_tied : {L : Type 0} {holds : L → List Val → Type 0} {c : Inside L}
     (c.live ≡ true → AreWrites slots (state (called c)).writes) → map slot_old slots ≡ map slot_old c.opened.writes →
     Tied holds (record c { fresh = fresh; opened = record c.opened { writes = slots } })
 stays_tied fresh slots t still ended writes olds = record {
-  seat = t.seat;
-  run = t.run;
-  number = t.number;
-  shape = t.shape;
-  mirror = t.mirror;
+  placed = t.placed;
   begun = t.begun;
   phase = t.phase;
   manager = t.manager;
@@ -118,17 +114,8 @@ stays_tied fresh slots t still ended writes olds = record {
     writes = x.writes;
     releases = x.releases;
   };
-  sighted = λ live some. let x = t.sighted live some in record {
-    later = x.later;
-    sight = x.sight;
-    before = x.before;
-    log = x.log;
-    is_one = x.is_one;
-    caller = x.caller;
-    attempt = x.attempt;
-    newest = x.newest;
-    covers = x.covers;
-  };
+  sighted = λ live some. let x = t.sighted live some in
+      record { place = x.place; newest = x.newest; covers = x.covers };
   reads = t.reads;
   values = t.values;
   writes = writes;

@@ -1,32 +1,27 @@
 -- An open that has not left its attempt ends with a sight of it.
-use Rattle.std.proofs.Common.{◌++◌, ◌==◌, ◌∙◌, ◌∷◌, ◌≡◌, ◌≢◌, ◌⊎◌, List, [], ap, append_assoc, false, inl, inr, refl, subst, sym, true, ℕ}
+use Rattle.std.proofs.Common.{◌++◌, ◌==◌, ◌∙◌, ◌∷◌, ◌≡◌, ◌≢◌, List, [], ap, append_assoc, false, inl, inr, refl, subst, sym, true, ℕ}
 use Rattle.std.proofs.lemmas.List.{append_cancel_right}
 use Rattle.std.specs.Prelude.{Option, None, Some, IfSome}
 use Rattle.std.proofs.lemmas.Bool.{cases_Bool, cond_both, eq-eqb, eqb-true}
 use Rattle.std.proofs.lemmas.List.Elements.{filter-append}
-use Rattle.dstm_engine.proofs.Base.{CoreRun, Doing, EndsInPass, EndsInRank, Event, IsCall, IsRunOf, IsSight, Kind, Lcg, LocalState, LookSelf, Outside, Rank, Running, Shape, Val, Work, after, count_of, events_of, given, is_open, is_outside, local, old_values, read_values, rises, seen, state_after, value_at, value_in}
+use Rattle.dstm_engine.proofs.Base.{CoreRun, Doing, EndsInPass, EndsInRank, Event, IsCall, IsRunOf, Kind, Lcg, LocalState, LookSelf, Outside, Rank, Running, Shape, Val, Work, after, count_of, events_of, given, is_open, is_outside, local, old_values, read_values, rises, seen, state_after, value_at, value_in}
 use Rattle.dstm_progress.proofs.OwnEvents.{after_own}
 use Rattle.dstm_core.proofs.Static.{local_own}
 use Rattle.dstm_mem.proofs.Pairs.{AgreesWith-of_agrees}
 use Rattle.dstm_opacity.proofs.Maps.{sights_have_maps}
 use Rattle.dstm_order.proofs.Opens.{every_open}
 use Rattle.dstm_progress.proofs.Own.{IsNewest, newest_own, own_state}
-use Rattle.dstm_engine.proofs.Rechecking.{NoSelf, none_counted, sight_keeps}
-use Rattle.dstm_engine.specs.Attempts.{Admits, Sighted, completes_pass, is_look_self}
+use Rattle.dstm_engine.proofs.Rechecking.{NoSelf, in_later, none_counted, sight_keeps}
+use Rattle.dstm_engine.specs.Attempts.{Admits, SightAt, Sighted, completes_pass, is_look_self}
 use Rattle.dstm_engine.specs.Callers.{Called, held, law_of, shape_of, start_of, state}
 
 -- a sight of a caller's attempt stands in a log, and what is read and written is what was at the sight
-pub record Sees (s : Shape) (log : List Event) (c : ℕ) : Type 0 where
-  pub later : List Event
-  pub sight : Event
-  pub before : List Event
-  pub is : log ≡ later ++ sight ∷ before
-  pub is_one : IsSight s before sight
-  pub caller : sight.caller ≡ c
-  pub attempt : (local s before c).begun ≡ (local s log c).begun
-  pub newest : (i : ℕ) → count_of completes_pass s log c i ≡ count_of completes_pass s (sight ∷ before) c i
-  pub reads : (local s log c).reads ≡ (local s before c).reads
-  pub writes : (local s log c).writes ≡ (local s before c).writes
+pub record Sees (s : Shape) (events : List Event) (c : ℕ) : Type 0 where
+  pub place : SightAt s events c (local s events c).begun
+  pub open place use *
+  pub newest : (i : ℕ) → count_of completes_pass s events c i ≡ count_of completes_pass s (sight ∷ before) c i
+  pub reads : (local s events c).reads ≡ (local s before c).reads
+  pub writes : (local s events c).writes ≡ (local s before c).writes
 
 -- after a caller's newest event it has none
 none_later : {c : ℕ} {log rest : List Event} {e : Event} → events_of c log ≡ e ∷ rest →
@@ -63,18 +58,20 @@ look_sees s c log rest e own kind live =
     let now = newest_state s own n in
     let keeps = sight_keeps s (local s n.before c) e e.kind kind in
     record {
-      later = n.later;
-      sight = e;
-      before = n.before;
-      is = n.run;
-      is_one = record {
-        kind = kind;
-        found =
-            found_given s (local s n.before c) e e.kind kind (subst (λ (l : LocalState). l.phase ≢ Outside) now live)
-            ∙ ap (λ a. given (local s n.before a).phase) (sym n.own);
+      place = record {
+        later = n.later;
+        sight = e;
+        before = n.before;
+        log = n.run;
+        is_one = record {
+          kind = kind;
+          found =
+              found_given s (local s n.before c) e e.kind kind (subst (λ (l : LocalState). l.phase ≢ Outside) now live)
+              ∙ ap (λ a. given (local s n.before a).phase) (sym n.own);
+        };
+        caller = n.own;
+        attempt = sym (ap (λ (l : LocalState). l.begun) now ∙ keeps.2);
       };
-      caller = n.own;
-      attempt = sym (ap (λ (l : LocalState). l.begun) now ∙ keeps.2);
       newest = λ i. ap (λ xs. count_of completes_pass s xs c i) n.run
           ∙ none_counted s c i n.later (e ∷ n.before) (subst NoSelf (sym (none_later own n)) tt);
       reads = ap (λ (l : LocalState). l.reads) now ∙ keeps.0;
@@ -100,15 +97,8 @@ rank_sees s c log rest rank e own raised kind live =
     let x = look_sees s c n.before rest e n.rest kind
     (λ out. live (ap (λ (l : LocalState). l.phase) now ∙ keeps.3 ∙ out)) in
     record {
-      later = n.later ++ rank ∷ x.later;
-      sight = x.sight;
-      before = x.before;
-      is =
-          n.run ∙ ap (λ xs. n.later ++ rank ∷ xs) x.is
-          ∙ sym (append_assoc n.later (rank ∷ x.later) (x.sight ∷ x.before));
-      is_one = x.is_one;
-      caller = x.caller;
-      attempt = x.attempt ∙ sym (ap (λ (l : LocalState). l.begun) now ∙ keeps.2);
+      place = in_later (n.later ++ rank ∷ []) (n.run ∙ sym (append_assoc n.later (rank ∷ []) n.before))
+          (sym (ap (λ (l : LocalState). l.begun) now ∙ keeps.2)) x.place;
       newest = λ i. ap (λ xs. count_of completes_pass s xs c i) n.run
           ∙ none_counted s c i n.later (rank ∷ n.before) (subst NoSelf (sym (none_later own n)) tt)
           ∙ none_counted s c i (rank ∷ []) n.before (rank_only c rank (ap is_look_self raised)) ∙ x.newest i;
@@ -147,13 +137,7 @@ open_sees {s = s} c log old {w = w} {g = g} {es = es} opens run call own runs = 
 -- the sight covers what is held
 pub sees_all : {L : Type 0} (k : Called L) → Sees (shape_of k) k.log k.number → Sighted k
 sees_all k x = record {
-  later = x.later;
-  sight = x.sight;
-  before = x.before;
-  log = x.is;
-  is_one = x.is_one;
-  caller = x.caller;
-  attempt = x.attempt;
+  place = x.place;
   newest = x.newest (state k).begun;
   covers = λ o v is.
       ap (λ rs. value_in (read_values (shape_of k) (start_of k) k.log rs

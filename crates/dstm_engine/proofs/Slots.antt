@@ -6,7 +6,8 @@ use Rattle.std.proofs.lemmas.Bool.{cases_Bool, eqb-true, eq-eqb}
 use Rattle.std.proofs.lemmas.List.Elements.{filter-append}
 use Rattle.dstm_engine.proofs.Base.{Read, ReadSlot, Val, WriteSlot, drop_read, kept, read_of, word_of, words_of}
 use Rattle.dstm_mem.specs.Slots.{IsSlotOf}
-use Rattle.dstm_engine.specs.Opened.{is_kept, read_at, read_slot, reads_sort, with_set_slot, without_read, write_at, writes_sort}
+use Rattle.dstm_engine.specs.Opened.{read_at, read_slot, with_set_slot, without_read, write_at}
+use Rattle.dstm_steps.specs.Sorts.{is_kept, reads_sort, writes_sort}
 use Rattle.dstm_engine.specs.Mirror.{slot_word}
 
 -- ---- a value that is set

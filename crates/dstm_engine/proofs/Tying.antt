@@ -1,12 +1,12 @@
 -- A caller whose fields stand for what contracts see of it, before and after a call.
-use Rattle.std.proofs.Common.{◌∙◌, ◌≡◌, List, ap, refl, subst, sym}
-use Rattle.std.specs.Prelude.{Bool, true, false, None, Option, not, nat_lt, ℕ, ◌||◌, ◌+◌}
+use Rattle.std.proofs.Common.{◌<◌, ◌∙◌, ◌≡◌, List, ap, refl, subst, sym}
+use Rattle.std.specs.Prelude.{Bool, true, false, None, Some, Option, not, nat_lt, ℕ, ◌||◌, ◌+◌}
 use Rattle.dstm_engine.proofs.Base.{Again, Done, Event, Home, InTask, IsMirror, LocalState, Read, Steps, Task, Val, View, Write, answer, caller_state, due, effort_by, is_spent, local, now, number_or, old_values, read_values, view_of}
 use Rattle.dstm_steps.proofs.Stepping.{began_as}
 use Rattle.dstm_engine.proofs.Calling.{StepsOf, began_is, now_is, starts}
 use Rattle.dstm_engine.specs.Began.{began_of}
 use Rattle.dstm_engine.specs.Callers.{is_live, is_running, state}
-use Rattle.dstm_engine.specs.Mirror.{Tied, called, phase_by}
+use Rattle.dstm_engine.specs.Mirror.{Placed, Tied, called, phase_by}
 use Rattle.dstm_engine.specs.declared.caller.Caller.TheInside.{Inside}
 
 -- steps that have nothing behind them
@@ -97,5 +97,12 @@ module _ {L : Type 0} {holds : L → List Val → Type 0} (c : Inside L) {task :
   pub state_then : state_logged c new ≡ now (called c).home new
   state_then = sym (ap (caller_state c.terms) u.view)
 
-  pub mirror_then : IsMirror c.terms.shape new (state_logged c new)
-  mirror_then = subst (IsMirror c.terms.shape new) (sym state_then) u.mirror
+  pub placed_then : c.number < c.terms.shape.callers → (state_logged c new).number ≡ Some c.number →
+      Placed holds c.terms new c.number
+  placed_then few number = record {
+    seat = (u.view, u.seat.1);
+    run = u.run;
+    number = (few, number);
+    shape = u.shape;
+    mirror = subst (IsMirror c.terms.shape new) (sym state_then) u.mirror;
+  }

@@ -38,6 +38,16 @@ is_look_object kind = false
 abbrev pub looks_at_object : Shape → LocalState → Event → Bool
 looks_at_object shape state event = is_look_object event.kind
 
+-- a sight of a caller's attempt of this number stands in a log
+pub record SightAt (shape : Shape) (events : List Event) (c attempts : ℕ) : Type 0 where
+  pub later : List Event
+  pub sight : Event
+  pub before : List Event
+  pub log : events ≡ later ++ sight ∷ before
+  pub is_one : IsSight shape before sight
+  pub caller : sight.caller ≡ c
+  pub attempt : (local shape before c).begun ≡ attempts
+
 module _ {L : Type 0} where
   -- how many sights the last attempt has had
   abbrev pub sights : Called L → ℕ
@@ -49,13 +59,8 @@ module _ {L : Type 0} where
 
   -- The newest sight of this attempt covers all reads together: it has had no other since.
   pub record Sighted (k : Called L) : Type 0 where
-    pub later : List Event
-    pub sight : Event
-    pub before : List Event
-    pub log : k.log ≡ later ++ sight ∷ before
-    pub is_one : IsSight (shape_of k) before sight
-    pub caller : sight.caller ≡ k.number
-    pub attempt : (local (shape_of k) before k.number).begun ≡ (state k).begun
+    pub place : SightAt (shape_of k) k.log k.number (state k).begun
+    pub open place use *
     pub newest : sights k ≡ count_of completes_pass (shape_of k) (sight ∷ before) k.number (state k).begun
     pub covers : (o : ℕ) (v : Val) → held k o ≡ Some v →
         value_in (seen (shape_of k) (start_of k) k.log before k.number) o ≡ Some v

@@ -58,13 +58,18 @@ module _ {L : Type 0} where
 
   module _ (holds : L → List Val → Type 0) where
     -- A CALL: the caller's own events since are those of the order of steps, and it answers as this says. What the
-    -- caller has seen goes on from what it had seen, and is a core run.
-    pub record Performs (task : Task) (k n : Called L) (again : Option Again) : Type 0 where
+    -- caller has seen then goes on from what it had seen, and is a core run.
+    pub record Acts (task : Task) (k : Called L) (again : Option Again) (log : List Event) (words : Lcg) : Type 0 where
       pub events : List Event
-      pub own : events_of k.number n.log ≡ events ++ events_of k.number k.log
+      pub own : events_of k.number log ≡ events ++ events_of k.number k.log
       pub call : IsCall task (shape_of k) (state k) k.generator events
       pub answers : again ≡ answer_of task (shape_of k) (state k) k.generator events
-      pub seen : IsPastOf k.log n.log
-      pub run : IsRunOf holds k.home.terms n.log
-      pub generator : n.generator ≡ (effort_of (shape_of k) (state k) k.generator events).generator
+      pub seen : IsPastOf k.log log
+      pub run : IsRunOf holds k.home.terms log
+      pub generator : words ≡ (effort_of (shape_of k) (state k) k.generator events).generator
+
+    -- That is what a call has made of its caller, in the same table and under the same number.
+    pub record Performs (task : Task) (k n : Called L) (again : Option Again) : Type 0 where
+      pub acts : Acts task k again n.log n.generator
+      pub open acts use *
       pub same : (n.home ≡ k.home) × (n.number ≡ k.number)

@@ -15,4 +15,5 @@ pub mod Endings
 pub mod Places
 pub mod Opens
 pub mod Makes
+pub mod Bodies
 pub mod Lives

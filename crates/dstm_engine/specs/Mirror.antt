@@ -2,6 +2,7 @@
 use Rattle.std.specs.Prelude.{◌≡◌, ◌≢◌, ℕ, ◌+◌, ◌<◌, ◌≤◌, Bool, true, false, List, [], ◌∷◌, length, map, Option, None, Some, IfSome}
 use Rattle.dstm_model.specs.declared.value.Val.{Val}
 use Rattle.dstm_core.specs.Histories.{old_values, read_values}
+use Rattle.dstm_core.specs.Runs.{local}
 use Rattle.dstm_core.specs.State.{LocalState, record_resolved}
 use Rattle.dstm_core.specs.declared.state.Phase.{Phase}
 use Rattle.dstm_core.specs.declared.state.Phase.TheVariants.{Outside, Running}
@@ -11,9 +12,11 @@ use Rattle.dstm_steps.specs.Under.{IsMirror}
 use Rattle.dstm_steps.specs.Writes.{AreWrites}
 use Rattle.dstm_steps.specs.declared.slots.ReadSlot.{ReadSlot}
 use Rattle.dstm_steps.specs.declared.slots.WriteSlot.{WriteSlot}
-use Rattle.dstm_words.specs.Seats.{IsRunOf}
+use Rattle.dstm_steps.specs.declared.steps.Steps.{Steps}
+use Rattle.dstm_words.specs.Seats.{IsRunOf, caller_view}
+use Rattle.dstm_words.specs.declared.terms.Terms.{Terms}
 use Rattle.dstm_engine.specs.declared.caller.Caller.TheInside.{Inside}
-use Rattle.dstm_engine.specs.Callers.{Called, shape_of, start_of, seat_view, state, entry}
+use Rattle.dstm_engine.specs.Callers.{Called, shape_of, start_of, state, entry}
 use Rattle.dstm_engine.specs.Attempts.{Sighted}
 use Rattle.dstm_engine.specs.Calls.{IsMade, IsTold}
 use Rattle.dstm_engine.specs.Outcomes.{IsLeft, Promises}
@@ -63,12 +66,17 @@ module _ {L : Type 0} where
     left = c.left;
   }
 
+  -- the steps of a caller of this number are those of its seat, and know what the machine says of it
+  pub record Placed (holds : L → List Val → Type 0) (terms : Terms L) (steps : Steps L) (c : ℕ) : Type 0 where
+    pub seat : (steps.seat.me.0 ≡ caller_view terms c steps.seat.me.0.log) × (steps.seat.me.1 ≡ [])
+    pub run : IsRunOf holds terms steps.seat.me.0.log
+    pub number : (c < terms.shape.callers) × ((local terms.shape steps.seat.me.0.log c).number ≡ Some c)
+    pub shape : steps.shape ≡ terms.shape
+    pub mirror : IsMirror terms.shape steps (local terms.shape steps.seat.me.0.log c)
+
   pub record Tied (holds : L → List Val → Type 0) (c : Inside L) : Type 0 where
-    pub seat : (c.steps.seat.me.0 ≡ seat_view (called c)) × (c.steps.seat.me.1 ≡ [])
-    pub run : IsRunOf holds c.terms c.steps.seat.me.0.log
-    pub number : (c.number < c.terms.shape.callers) × ((state (called c)).number ≡ Some c.number)
-    pub shape : c.steps.shape ≡ c.terms.shape
-    pub mirror : IsMirror c.terms.shape c.steps (state (called c))
+    pub placed : Placed holds c.terms c.steps c.number
+    pub open placed use *
     pub begun : (state (called c)).begun ≡ c.begun
     pub phase : (state (called c)).phase ≡ phase_by c.live
     pub manager : (c.steps.decider.manager ≡ c.terms.shape.manager) × (c.began.value.manager ≡ c.terms.shape.manager)

@@ -1,21 +1,18 @@
 -- What an attempt has open.
-use Rattle.std.specs.Prelude.{◌≡◌, ℕ, ◌+◌, ◌*◌, ◌^◌, ◌<◌, ◌≤◌, ◌==◌, Bool, true, false, List, [], ◌∷◌, filter, find, length, slice_index_or, vec_capacity, Option, None, Some, if◌then◌else◌}
+use Rattle.std.specs.Prelude.{◌≡◌, ℕ, ◌+◌, ◌*◌, ◌^◌, ◌<◌, ◌≤◌, ◌==◌, List, [], ◌∷◌, filter, find, length, slice_index_or, vec_capacity, Option, None, Some, if◌then◌else◌}
 use Rattle.dstm_steps.specs.Writes.{to_put}
 use Rattle.dstm_steps.specs.declared.slots.ReadSlot.{ReadSlot}
 use Rattle.dstm_steps.specs.declared.slots.WriteSlot.{WriteSlot}
-use Rattle.dstm_mem.specs.Slots.{ArePlaced, Sort}
-use Rattle.dstm_model.specs.Map.{no_value}
+use Rattle.dstm_steps.specs.Sorts.{is_kept, no_read, no_write, reads_sort, writes_sort}
+use Rattle.dstm_mem.specs.Slots.{ArePlacedBy}
+use Rattle.dstm_mem.specs.declared.places.Place.{Place}
 use Rattle.dstm_model.specs.declared.value.Val.{Val}
 use Rattle.dstm_engine.specs.declared.opened.Opened.TheInside.{Inside}
-use Rattle.dstm_engine.specs.declared.opened.Place.{Place}
 
 pub record OpenedAs : Type 0 where
   pub objects : ℕ  -- of the table
   pub reads : List ReadSlot  -- the reads that are kept, the oldest first
   pub writes : List WriteSlot  -- the objects open for writing, the oldest first
-
-abbrev pub is_kept : ReadSlot → Bool
-is_kept slot = slot.kept
 
 -- the value that an object's slots hand out: the one last set, or else the one that is held
 abbrev pub slots_value : Option WriteSlot → Option ReadSlot → Option Val
@@ -44,38 +41,19 @@ with_set_slot o v (slot ∷ slots) =
 
 -- ---- where each object stands
 
-abbrev pub no_read : ReadSlot
-no_read = record { object = 0; word = 0; value = no_value; kept = false }
-
-abbrev pub no_write : WriteSlot
-no_write = record { object = 0; old = no_value; new = None }
-
-abbrev pub no_place : Place
-no_place = record { read = 0; write = 0 }
-
 abbrev pub read_at : List ReadSlot → ℕ → ReadSlot
 read_at slots i = slice_index_or slots i no_read
 
 abbrev pub write_at : List WriteSlot → ℕ → WriteSlot
 write_at slots i = slice_index_or slots i no_write
 
-abbrev pub place_at : List Place → ℕ → Place
-place_at places o = slice_index_or places o no_place
-
--- which objects the slots are of, and which of them count
-abbrev pub reads_sort : Sort ReadSlot
-reads_sort = record { object = λ (slot : ReadSlot). slot.object; counts = is_kept; none = no_read }
-
-abbrev pub writes_sort : Sort WriteSlot
-writes_sort = record { object = λ (slot : WriteSlot). slot.object; counts = λ (slot : WriteSlot). true; none = no_write }
-
 -- each object finds its read there
 abbrev pub AreReadPlaces : List ReadSlot → List Place → Type 0
-AreReadPlaces reads places = ArePlaced reads_sort reads (length places) (λ o. (place_at places o).read)
+AreReadPlaces reads places = ArePlacedBy (λ (place : Place). place.read) reads_sort reads places
 
 -- and what it is open for writing with
 abbrev pub AreWritePlaces : List WriteSlot → List Place → Type 0
-AreWritePlaces writes places = ArePlaced writes_sort writes (length places) (λ o. (place_at places o).write)
+AreWritePlaces writes places = ArePlacedBy (λ (place : Place). place.write) writes_sort writes places
 
 -- no two slots are of one object
 abbrev pub AreApart : List ReadSlot → Type 0

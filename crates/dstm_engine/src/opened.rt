@@ -1,21 +1,17 @@
 // What an attempt has open, and where each object stands in it.
-ghost use Rattle.std.specs.Prelude.{◌≡◌, ◌≢◌, ◌⊎◌, ℕ, List, ◌+◌, ◌*◌, ◌^◌, ◌<◌, ◌≤◌, [], ◌∷◌, ◌++◌, true, None, IfOk, IsSome, OnOk, filter, length, map, vec_capacity};
+ghost use Rattle.std.specs.Prelude.{◌≡◌, ◌≢◌, ℕ, List, ◌+◌, ◌*◌, ◌^◌, ◌<◌, ◌≤◌, [], ◌∷◌, ◌++◌, true, None, IfOk, IsSome, OnOk, filter, length, map, vec_capacity};
 ghost use Rattle.dstm_steps.specs.Reads.{kept};
 ghost use Rattle.dstm_engine.specs.Mirror.{slot_old, slot_value, slot_word};
-ghost use Rattle.dstm_engine.specs.Opened.{OpenedAs, is_kept, place_at, read_at, read_slot, slots_value, with_set_slot, without_read, write_at, write_slot, AreApart, AreReadPlaces};
+ghost use Rattle.dstm_engine.specs.Opened.{OpenedAs, read_at, read_slot, slots_value, with_set_slot, without_read, write_slot, AreApart, AreReadPlaces};
+ghost use Rattle.dstm_steps.specs.Sorts.{is_kept};
+ghost use Rattle.dstm_mem.specs.Slots.{place_at};
 ghost use Rattle.dstm_steps.specs.declared.slots.WriteSlot.{WriteSlot};
 
+use dstm_mem::{Place, forget, look, push};
 use dstm_model::Val;
 use dstm_steps::{ReadSlot, WriteSlot};
 use std::alloc::{AllocError, Global};
 use std::marker::Model;
-
-// Where an object stands in the two lists: its slot plus 1, or 0.
-#[derive(Clone, Copy, Debug)]
-pub struct Place {
-    read: u32,
-    write: u32,
-}
 
 // The reads and the writes of an attempt. There is room for all objects from the making on, and as much for reads that
 // were let go: at most half of the slots are of these when a read is recorded.
@@ -30,7 +26,8 @@ pub struct Opened {
 
 impl Model for Opened {
     ghost use Rattle.std.specs.Prelude.{filter, length};
-    ghost use Rattle.dstm_engine.specs.Opened.{HasPlaces, OpenedAs, is_kept};
+    ghost use Rattle.dstm_engine.specs.Opened.{HasPlaces, OpenedAs};
+    ghost use Rattle.dstm_steps.specs.Sorts.{is_kept};
 
     ghost Value = { OpenedAs };
 
@@ -58,27 +55,21 @@ impl Opened {
     }
 
     // The read of an object.
+    #[tactic(auto, using(crate::proofs::AtPlace::found_read))]
     pub fn read(&self, o: u32) -> Option<ReadSlot>
         requires exists { o < self.now.objects }
         ensures { result ≡ read_slot self.now.reads o }
     {
-        let place = self.places[o as usize].read;
-        if place == 0 {
-            return None;
-        }
-        Some(self.reads[place as usize - 1])
+        look(&self.reads, self.places[o as usize].read)
     }
 
     // What an object is open for writing with.
+    #[tactic(auto, using(crate::proofs::AtPlace::found_write))]
     pub fn write(&self, o: u32) -> Option<WriteSlot>
         requires exists { o < self.now.objects }
         ensures { result ≡ write_slot self.now.writes o }
     {
-        let place = self.places[o as usize].write;
-        if place == 0 {
-            return None;
-        }
-        Some(self.writes[place as usize - 1])
+        look(&self.writes, self.places[o as usize].write)
     }
 
     // The value last set for an object, or else the one that is held.
@@ -125,13 +116,17 @@ impl Opened {
         } }
     {
         make_room(&mut self.reads, &mut self.places, &mut self.gone);
-        self.reads.push_reserved(ReadSlot {
+        let slot = ReadSlot {
             object,
             kept: true,
             word,
             value,
-        });
-        self.places[object as usize].read = self.reads.len() as u32;
+        };
+        push(
+            &mut self.reads,
+            &mut self.places[object as usize].read,
+            slot,
+        );
     }
 
     // Lets the read of an object go, where there is one.
@@ -155,8 +150,11 @@ impl Opened {
         requires room { length self.old.writes < self.old.objects }
         ensures { self.new ≡ record self.old { writes = self.old.writes ++ slot ∷ [] } }
     {
-        self.writes.push_reserved(slot);
-        self.places[slot.object as usize].write = self.writes.len() as u32;
+        push(
+            &mut self.writes,
+            &mut self.places[slot.object as usize].write,
+            slot,
+        );
     }
 
     // Sets the value of an object that is open for writing.
@@ -173,8 +171,8 @@ impl Opened {
     pub fn clear(&mut self)
         ensures { self.new ≡ record self.old { reads = []; writes = [] } }
     {
-        forget_reads(&mut self.places, &self.reads);
-        forget_writes(&mut self.places, &self.writes);
+        forget(&mut self.places, &self.reads);
+        forget(&mut self.places, &self.writes);
         self.reads.clear();
         self.writes.clear();
         self.gone = 0;
@@ -247,37 +245,5 @@ fn place_reads(places: &mut [Place], reads: &[ReadSlot])
 {
     for (i, slot) in reads.iter().enumerate() {
         places[slot.object as usize].read = i as u32 + 1;
-    }
-}
-
-// No object stands among the reads any more.
-fn forget_reads(places: &mut [Place], reads: &[ReadSlot])
-    requires below { (i : ℕ) → i < length reads.now → (read_at reads.now i).object < length places.old }
-    ensures size { length places.new ≡ length places.old }
-    ensures done { (i : ℕ) → i < length reads.now → (place_at places.new (read_at reads.now i).object).read ≡ 0 }
-    ensures same { (o : ℕ) → ((place_at places.new o).read ≡ 0)
-        ⊎ ((place_at places.new o).read ≡ (place_at places.old o).read) }
-    ensures writes { (o : ℕ) → (place_at places.new o).write ≡ (place_at places.old o).write }
-{
-    for (i, slot) in reads.iter().enumerate() {
-        // The proof counts by it.
-        let _ = i;
-        places[slot.object as usize].read = 0;
-    }
-}
-
-// No object stands among the writes any more.
-fn forget_writes(places: &mut [Place], writes: &[WriteSlot])
-    requires below { (i : ℕ) → i < length writes.now → (write_at writes.now i).object < length places.old }
-    ensures size { length places.new ≡ length places.old }
-    ensures done { (i : ℕ) → i < length writes.now → (place_at places.new (write_at writes.now i).object).write ≡ 0 }
-    ensures same { (o : ℕ) → ((place_at places.new o).write ≡ 0)
-        ⊎ ((place_at places.new o).write ≡ (place_at places.old o).write) }
-    ensures reads { (o : ℕ) → (place_at places.new o).read ≡ (place_at places.old o).read }
-{
-    for (i, slot) in writes.iter().enumerate() {
-        // The proof counts by it.
-        let _ = i;
-        places[slot.object as usize].write = 0;
     }
 }

@@ -1,5 +1,6 @@
 ghost use Rattle.std.specs.Prelude.{◌≡◌, ◌+◌, ◌≤◌, ℕ, List, OnOk, IfErr, false};
 ghost use Rattle.dstm_engine.specs.Attempts.{Admits, looks, sights};
+ghost use Rattle.dstm_engine.specs.Bodies.{Known};
 ghost use Rattle.dstm_engine.specs.Callers.{live_held, live_opened, shape_of, written};
 ghost use Rattle.dstm_engine.specs.Makes.{let_go};
 ghost use Rattle.dstm_mem.specs.Memory.{HoldsAtMost, with_set};
@@ -160,7 +161,7 @@ impl<'a, L: Law> Tx<'a, L> {
         ensures few { sights self.new.caller.now + looks self.old.caller.now
             ≤ looks self.new.caller.now + sights self.old.caller.now }
     {
-        run_counted::<L, B, Brand>(self, body)
+        run_by::<L, B, Kept, Brand>(self, body)
     }
 
     /// The same with a body that lets reads go. Where reads stay reads, it keeps no more of them than it says at most.
@@ -183,66 +184,114 @@ impl<'a, L: Law> Tx<'a, L> {
         ensures few { sights self.new.caller.now + looks self.old.caller.now
             ≤ looks self.new.caller.now + sights self.old.caller.now }
     {
-        run_loosely::<L, B, Brand>(self, body)
+        run_by::<L, B, LetGo, Brand>(self, body)
     }
 }
 
-// The same, of an attempt that was counted.
-fn run_counted<'a, L: Law, B: Body<L>, C: Counted>(
-    tx: &mut Tx<'a, L>,
-    body: &mut B,
-) -> Result<(), Again>
-    requires fresh { IsFresh ⟦<Tx<'a, L> as Mem>⟧ tx.old }
-    requires lawful { (map : List Val) → Admits L.holds tx.old.caller.now map → L.holds (B.law body.old) map }
-    requires few { sights tx.old.caller.now + C.looks ≤ looks tx.old.caller.now + C.sights }
+/// How a body of either trait runs on an attempt, and what is known of it.
+pub(crate) trait Runs<L: Law, B>: TellsLetGo + Sized {
+    type Task;
 
-    ensures lawful { OnOk result ((map : List Val) → Admits L.holds tx.new.caller.now map →
-        L.holds (B.law body.new) (with_set map (written tx.new.caller.now))) }
-    ensures right { OnOk result ((map : List Val) → Admits L.holds tx.new.caller.now map →
-        B.right body.new map (with_set map (written tx.new.caller.now))) }
-    ensures leaves { OnOk result
-        (B.leaves body.new (live_held tx.new.caller.now) (live_opened tx.new.caller.now)) }
-    ensures law { B.law body.new ≡ B.law body.old }
-    ensures task { B.task body.new ≡ B.task body.old }
-    ensures outcome { IfErr result (λ _. B.outcome body.new ≡ B.outcome body.old) }
-    ensures leads { Leads ⟦<Tx<'a, L> as Mem>⟧ tx.old tx.new result }
-    ensures kept { let_go tx.new.caller.now ≡ let_go tx.old.caller.now }
-    ensures few { sights tx.new.caller.now + C.looks ≤ looks tx.new.caller.now + C.sights }
-{
-    let mut opener = Opener {
-        tx: &mut *tx,
-        of: PhantomData::<(C, Kept)>,
-    };
-    body.run(&mut opener)
+    type Outcome;
+
+    ghost known: { Known L B Self.Task Self.Outcome };
+
+    /// Runs the body once, on an attempt on which nothing was read, set or opened.
+    fn run<'b, 'a, C: Counted>(
+        body: &mut B,
+        on: &mut Opener<'b, 'a, L, C, Self>,
+    ) -> Result<(), Again>
+        requires fresh { IsFresh ⟦<Opener<'b, 'a, L, C, Self> as Mem>⟧ on.old }
+        requires lawful { (map : List Val) → Admits L.holds on.old.tx.now.caller.now map → L.holds (known.law body.old) map }
+
+        ensures lawful { OnOk result ((map : List Val) → Admits L.holds on.new.tx.now.caller.now map →
+            L.holds (known.law body.new) (with_set map (written on.new.tx.now.caller.now))) }
+        ensures right { OnOk result ((map : List Val) → Admits L.holds on.new.tx.now.caller.now map →
+            known.right body.new map (with_set map (written on.new.tx.now.caller.now))) }
+        ensures leaves { OnOk result
+            (known.leaves body.new (live_held on.new.tx.now.caller.now) (live_opened on.new.tx.now.caller.now)) }
+        ensures few { OnOk result ((shape_of on.old.tx.now.caller.now).all_write ≡ false →
+            (most : ℕ) → known.keeps_at_most body.new most → HoldsAtMost most (live_held on.new.tx.now.caller.now)) }
+        ensures law { known.law body.new ≡ known.law body.old }
+        ensures task { known.task body.new ≡ known.task body.old }
+        ensures outcome { IfErr result (λ _. known.outcome body.new ≡ known.outcome body.old) }
+        ensures leads { Leads ⟦<Opener<'b, 'a, L, C, Self> as Mem>⟧ on.old on.new result };
 }
 
-// And with a body that lets reads go: the attempt has had no sight since it was counted.
-pub(crate) fn run_loosely<'a, L: Law, B: LooseBody<L>, C: Counted>(
+// One that keeps its reads. It says of no number that it keeps at most so many.
+impl<L: Law, B: Body<L>> Runs<L, B> for Kept {
+    type Task = B::Task;
+
+    type Outcome = B::Outcome;
+
+    ghost known = { record {
+      law = B.law;
+      task = B.task;
+      outcome = B.outcome;
+      right = B.right;
+      leaves = B.leaves;
+      keeps_at_most = λ _ _. ⊥;
+    } };
+
+    fn run<'b, 'a, C: Counted>(
+        body: &mut B,
+        on: &mut Opener<'b, 'a, L, C, Kept>,
+    ) -> Result<(), Again> {
+        body.run(on)
+    }
+}
+
+// One that may let them go.
+impl<L: Law, B: LooseBody<L>> Runs<L, B> for LetGo {
+    type Task = B::Task;
+
+    type Outcome = B::Outcome;
+
+    ghost known = { record {
+      law = B.law;
+      task = B.task;
+      outcome = B.outcome;
+      right = B.right;
+      leaves = B.leaves;
+      keeps_at_most = B.keeps_at_most;
+    } };
+
+    fn run<'b, 'a, C: Counted>(
+        body: &mut B,
+        on: &mut Opener<'b, 'a, L, C, LetGo>,
+    ) -> Result<(), Again> {
+        body.run(on)
+    }
+}
+
+// The same, of an attempt that was counted: it has had no sight since.
+pub(crate) fn run_by<'a, L: Law, B, K: Runs<L, B>, C: Counted>(
     tx: &mut Tx<'a, L>,
     body: &mut B,
 ) -> Result<(), Again>
     requires fresh { IsFresh ⟦<Tx<'a, L> as Mem>⟧ tx.old }
-    requires lawful { (map : List Val) → Admits L.holds tx.old.caller.now map → L.holds (B.law body.old) map }
+    requires lawful { (map : List Val) → Admits L.holds tx.old.caller.now map → L.holds (K.known.law body.old) map }
     requires few { sights tx.old.caller.now + C.looks ≤ looks tx.old.caller.now + C.sights }
     requires begun { sights tx.old.caller.now ≤ C.sights }
 
     ensures lawful { OnOk result ((map : List Val) → Admits L.holds tx.new.caller.now map →
-        L.holds (B.law body.new) (with_set map (written tx.new.caller.now))) }
+        L.holds (K.known.law body.new) (with_set map (written tx.new.caller.now))) }
     ensures right { OnOk result ((map : List Val) → Admits L.holds tx.new.caller.now map →
-        B.right body.new map (with_set map (written tx.new.caller.now))) }
+        K.known.right body.new map (with_set map (written tx.new.caller.now))) }
     ensures leaves { OnOk result
-        (B.leaves body.new (live_held tx.new.caller.now) (live_opened tx.new.caller.now)) }
+        (K.known.leaves body.new (live_held tx.new.caller.now) (live_opened tx.new.caller.now)) }
     ensures most { OnOk result ((shape_of tx.old.caller.now).all_write ≡ false →
-        (most : ℕ) → B.keeps_at_most body.new most → HoldsAtMost most (live_held tx.new.caller.now)) }
-    ensures law { B.law body.new ≡ B.law body.old }
-    ensures task { B.task body.new ≡ B.task body.old }
-    ensures outcome { IfErr result (λ _. B.outcome body.new ≡ B.outcome body.old) }
+        (most : ℕ) → K.known.keeps_at_most body.new most → HoldsAtMost most (live_held tx.new.caller.now)) }
+    ensures law { K.known.law body.new ≡ K.known.law body.old }
+    ensures task { K.known.task body.new ≡ K.known.task body.old }
+    ensures outcome { IfErr result (λ _. K.known.outcome body.new ≡ K.known.outcome body.old) }
     ensures leads { Leads ⟦<Tx<'a, L> as Mem>⟧ tx.old tx.new result }
+    ensures kept { K.told (let_go tx.new.caller.now) ≡ K.told (let_go tx.old.caller.now) }
     ensures few { sights tx.new.caller.now + C.looks ≤ looks tx.new.caller.now + C.sights }
 {
     let mut opener = Opener {
         tx: &mut *tx,
-        of: PhantomData::<(C, LetGo)>,
+        of: PhantomData::<(C, K)>,
     };
-    body.run(&mut opener)
+    K::run(body, &mut opener)
 }

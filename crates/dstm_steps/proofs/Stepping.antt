@@ -49,20 +49,12 @@ may_any k s l way c p found m = record { place = m.place; access = m.access; may
 pub load_operand : (k : Kind) (s : Shape) (l : LocalState) (e : Event) → ActsBy k Load →
     HasOperand k (operand_of k e.place 0) e
 load_operand LookObj s l e acts = refl
-load_operand Release s l e acts = refl
-load_operand PutHigh s l e acts = let way = acts s l e in absurd (cc)
-load_operand PutNew s l e acts = let way = acts s l e in absurd (cc)
-load_operand Rank s l e acts = let way = acts s l e in absurd (cc)
-load_operand k s l e acts = tt
+load_operand k s l e acts = let way = acts s l e in first_of (assumption tt, cc)
 
 -- an exchange has none
 pub exchange_operand : (k : Kind) (e : Event) → is_exchange k ≡ true → HasOperand k 0 e
 exchange_operand LookObj e x = absurd (cc)
-exchange_operand Release e x = absurd (cc)
-exchange_operand PutHigh e x = absurd (cc)
-exchange_operand PutNew e x = absurd (cc)
-exchange_operand Rank e x = absurd (cc)
-exchange_operand k e x = tt
+exchange_operand k e x = first_of (assumption tt, cc)
 
 pub exchange_object : (k : Kind) → is_exchange k ≡ true → k ≢ LookObj
 exchange_object LookObj x q = absurd (cc)
@@ -71,11 +63,7 @@ exchange_object k x q = let y = ap is_exchange q in absurd (cc)
 -- an add has none
 pub add_operand : (k : Kind) (s : Shape) (l : LocalState) (e : Event) → ActsBy k Add → HasOperand k 0 e
 add_operand LookObj s l e acts = let way = acts s l e in absurd (cc)
-add_operand Release s l e acts = let way = acts s l e in absurd (cc)
-add_operand PutHigh s l e acts = let way = acts s l e in absurd (cc)
-add_operand PutNew s l e acts = let way = acts s l e in absurd (cc)
-add_operand Rank s l e acts = let way = acts s l e in absurd (cc)
-add_operand k s l e acts = tt
+add_operand k s l e acts = let way = acts s l e in first_of (assumption tt, cc)
 
 pub add_object : (k : Kind) (s : Shape) (l : LocalState) (e : Event) → ActsBy k Add → k ≢ LookObj
 add_object LookObj s l e acts q = let way = acts s l e in absurd (cc)
@@ -84,27 +72,15 @@ add_object k s l e acts q = let way = subst (λ k. access k s l e ≡ Add) q (ac
 -- a store has the operand of its place and of what it stores
 pub store_operand : (k : Kind) (e : Event) (p v : ℕ) → e.place ≡ p → e.put ≡ v → HasOperand k (operand_of k p v) e
 store_operand LookObj e p v q r = q
-store_operand Release e p v q r = q
-store_operand PutHigh e p v q r = r
-store_operand PutNew e p v q r = r
-store_operand Rank e p v q r = r
-store_operand k e p v q r = tt
+store_operand k e p v q r = assumption tt
 
 -- a load leaves what the caller remembers
 pub load_mirror : {L : Type 0} (k : Kind) (s : Shape) (steps : Steps L) (l : LocalState) (e : Event) → ActsBy k Load →
     IsMirror s steps l → IsMirror s steps (after k s l e)
-load_mirror Enrol s steps l e acts m = let way = acts s l e in absurd (cc)
-load_mirror Stamp s steps l e acts m = let way = acts s l e in absurd (cc)
-load_mirror Rank s steps l e acts m = let way = acts s l e in absurd (cc)
-load_mirror Begin s steps l e acts m = let way = acts s l e in absurd (cc)
-load_mirror Install s steps l e acts m = let way = acts s l e in absurd (cc)
-load_mirror ToValidating s steps l e acts m = let way = acts s l e in absurd (cc)
-load_mirror Pause s steps l e acts m = let way = acts s l e in absurd (cc)
-load_mirror Resume s steps l e acts m = let way = acts s l e in absurd (cc)
 load_mirror LookSelf s steps l e acts m = cond_both (e.found == given l.phase) _ _ (IsMirror s steps)
     (λ _. record { own = m.own; installed = m.installed; rank = m.rank })
     (λ _. record { own = m.own; installed = m.installed; rank = m.rank })
-load_mirror k s steps l e acts m = record { own = m.own; installed = m.installed; rank = m.rank }
+load_mirror k s steps l e acts m = let way = acts s l e in first_of (assumption m, cc)
 
 placed : (way : Access) (c : ℕ) (k : Kind) (p found : ℕ) → (event_by way c k p found).place ≡ p
 placed Load c k p found = refl
@@ -298,12 +274,7 @@ turn_more left c h = rw (ne_eqb left 1 h) refl
 
 -- a code of a status names it
 pub status_named : (status : Status) → status_of (code_of status) ≡ status
-status_named status.Idle = refl
-status_named status.Active = refl
-status_named status.Waiting = refl
-status_named status.Validating = refl
-status_named status.Committed = refl
-status_named status.Aborted = refl
+status_named s = grind arith
 
 -- to abort and to give way take no word
 takes_none : (m : Manager) → (takes_word m decision.Kill ≡ false) × (takes_word m decision.GiveWay ≡ false)

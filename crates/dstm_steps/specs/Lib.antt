@@ -10,3 +10,4 @@ pub mod FoundValues
 pub mod Ticks
 pub mod Counting
 pub mod Places
+pub mod Sorts

@@ -1,6 +1,7 @@
 ghost use Rattle.std.specs.Prelude.{◌≡◌};
 ghost use Rattle.dstm_steps.specs.Writes.{to_put};
 
+use dstm_mem::Slot;
 use dstm_model::Val;
 
 /// A read of an object: the word that was found, and the value of the version that it stands for.
@@ -30,5 +31,25 @@ impl WriteSlot {
             Some(value) => value,
             None => self.old,
         }
+    }
+}
+
+impl Slot for ReadSlot {
+    ghost use Rattle.dstm_steps.specs.Sorts.{reads_sort};
+
+    ghost sort = { reads_sort };
+
+    fn object(&self) -> u32 {
+        self.object
+    }
+}
+
+impl Slot for WriteSlot {
+    ghost use Rattle.dstm_steps.specs.Sorts.{writes_sort};
+
+    ghost sort = { writes_sort };
+
+    fn object(&self) -> u32 {
+        self.object
     }
 }

@@ -226,12 +226,8 @@ module _ {L : Type 0} {holds : L → List Val → Type 0} {c : Inside L} (v : Ti
 
     pub freed_tied : (gave ≡ false → (state (called c)).holds ≡ []) → Tied holds (freed c new)
     freed_tied back = record {
-      seat = k.seat;
-      run = k.run;
-      number = k.number;
-      places = k.places;
+      placed = k.placed;
       begun = same_begun ∙ v.begun;
-      sample = k.sample;
       objects = k.objects;
       reads = v.reads ∙ sym same_reads;
       writes_read = λ o none. v.writes_read o (subst (λ rs. read_of o rs ≡ None) same_reads none);
@@ -265,12 +261,8 @@ module _ {L : Type 0} {holds : L → List Val → Type 0} {c : Inside L} (v : Ti
 
     pub anew_tied : since_sample c.number (view_of new.seat).log ≡ [] → Tied holds (anew c new)
     anew_tied none = record {
-      seat = k.seat;
-      run = k.run;
-      number = k.number;
-      places = k.places;
+      placed = k.placed;
       begun = ap (λ (l : LocalState). l.begun) is_begun ∙ ap (λ n. n + 1) v.begun;
-      sample = k.sample;
       objects = k.objects;
       reads = sym (ap (λ (l : LocalState). l.reads) is_begun);
       writes_read = λ o none. refl;

@@ -202,21 +202,23 @@ module _ {L : Type 0} {holds : L → List Val → Type 0} where
       q.answers ∙ ap (λ (h : Home L). answer_of (table_of h.terms) (state m) q.events) p.same.0
       ∙ ap (λ l. answer_of t l q.events) is in
       record {
-        events = q.events ++ p.events;
-        own = ap (λ c. events_of c n.log) (sym p.same.1) ∙ q.own
-            ∙ ap (λ c. q.events ++ events_of c m.log) p.same.1 ∙ ap (λ es. q.events ++ es) p.own
-            ∙ sym (append_assoc q.events p.events (events_of k.number k.log));
-        call = record {
-          obeys = finishes_more writes t (state k) q.events p.events
-              (locks_more writes t (state k) p.events p.call.obeys) (draws_then writes t (state k) p.events p.call.obeys
-              (ap (λ (l : LocalState). l.failed) (sym is) ∙ sound)
-              (ap (λ (l : LocalState). l.locked) (sym is) ∙ count)) call.obeys;
-          done = finishes_done writes t (state k) q.events p.events
-              (are_finishing writes t (state_after t (state k) p.events) q.events call.obeys) call.done;
+        acts = record {
+          events = q.events ++ p.events;
+          own = ap (λ c. events_of c n.log) (sym p.same.1) ∙ q.own
+              ∙ ap (λ c. q.events ++ events_of c m.log) p.same.1 ∙ ap (λ es. q.events ++ es) p.own
+              ∙ sym (append_assoc q.events p.events (events_of k.number k.log));
+          call = record {
+            obeys = finishes_more writes t (state k) q.events p.events
+                (locks_more writes t (state k) p.events p.call.obeys) (draws_then writes t (state k) p.events p.call.obeys
+                (ap (λ (l : LocalState). l.failed) (sym is) ∙ sound)
+                (ap (λ (l : LocalState). l.locked) (sym is) ∙ count)) call.obeys;
+            done = finishes_done writes t (state k) q.events p.events
+                (are_finishing writes t (state_after t (state k) p.events) q.events call.obeys) call.done;
+          };
+          answers = answers ∙ sym (answer_both t (state k) q.events p.events (sym p.answers));
+          seen = past_past k.log m.log n.log p.seen q.seen;
+          run = subst (λ (h : Home L). IsRunOf holds h.terms n.log) p.same.0 q.run;
         };
-        answers = answers ∙ sym (answer_both t (state k) q.events p.events (sym p.answers));
-        seen = past_past k.log m.log n.log p.seen q.seen;
-        run = subst (λ (h : Home L). IsRunOf holds h.terms n.log) p.same.0 q.run;
         same = (q.same.0 ∙ p.same.0, q.same.1 ∙ p.same.1);
       }
 
@@ -231,15 +233,17 @@ module _ {L : Type 0} {holds : L → List Val → Type 0} where
       let failed : (state_after t (state k) p.events).failed ≡ true =
       kept.failed ∙ ap (λ b. b || is_some (answer_of t (state k) p.events)) sound ∙ ap is_some (sym p.answers) in
       record {
-        events = p.events;
-        own = p.own;
-        call = record {
-          obeys = locks_more writes t (state k) p.events p.call.obeys;
-          done = locks_done writes t (state k) p.events again failed p.answers p.call.done;
+        acts = record {
+          events = p.events;
+          own = p.own;
+          call = record {
+            obeys = locks_more writes t (state k) p.events p.call.obeys;
+            done = locks_done writes t (state k) p.events again failed p.answers p.call.done;
+          };
+          answers = p.answers;
+          seen = p.seen;
+          run = p.run;
         };
-        answers = p.answers;
-        seen = p.seen;
-        run = p.run;
         same = p.same;
       }
 

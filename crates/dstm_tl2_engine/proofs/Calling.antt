@@ -39,11 +39,13 @@ module _ {L : Type 0} (holds : L → List Val → Type 0) (k : TlCalled L) where
       Under holds k.home (began_of task k) steps Done again → n.log ≡ (view_of steps.seat).log → n.home ≡ k.home →
       n.number ≡ k.number → Performs holds task k n again
   performs task n u log home number = record {
-    events = u.events;
-    own = ap (events_of k.number) log ∙ u.own;
-    call = (call_of u).0;
-    answers = (call_of u).1;
-    seen = subst (IsPastOf k.log) (sym log) u.seen;
-    run = subst (IsRunOf holds k.home.terms) (sym log) u.run;
+    acts = record {
+      events = u.events;
+      own = ap (events_of k.number) log ∙ u.own;
+      call = (call_of u).0;
+      answers = (call_of u).1;
+      seen = subst (IsPastOf k.log) (sym log) u.seen;
+      run = subst (IsRunOf holds k.home.terms) (sym log) u.run;
+    };
     same = (home, number);
   }

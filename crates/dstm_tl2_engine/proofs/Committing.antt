@@ -114,12 +114,8 @@ module _ {L : Type 0} {holds : L → List Val → Type 0} {c : Inside L} (v : Ti
         Tied holds closed_as
     closed_tied few locks may lawful is_left told =
         let k = kept v (Doing work) u in record {
-          seat = k.seat;
-          run = k.run;
-          number = k.number;
-          places = k.places;
+          placed = k.placed;
           begun = then_keeps.begun ∙ v.begun;
-          sample = k.sample;
           objects = k.objects;
           reads = v.reads ∙ sym then_keeps.reads;
           writes_read = λ o none. v.writes_read o (ap (read_of o) (sym then_keeps.reads) ∙ none);

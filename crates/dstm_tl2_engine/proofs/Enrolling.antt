@@ -29,12 +29,14 @@ enrols {L = L} {holds = holds} f {g = g} {found = found} {p = p} {w = w} {k = k}
       own = m.mine;
       state = there;
       steps = record {
-        events = e ∷ [];
-        own = m.mine ∙ ap (λ xs. e ∷ xs) (sym none);
-        call = enrolling (table_of f.home.terms) e refl new;
-        answers = refl;
-        seen = record { later = e ∷ m.log.0; whole = sym m.log.1 };
-        run = subst (λ (o : Option (Terms L)). IfSome o (λ (t : Terms L). IsRunOf holds t w.log)) terms m.run;
+        acts = record {
+          events = e ∷ [];
+          own = m.mine ∙ ap (λ xs. e ∷ xs) (sym none);
+          call = enrolling (table_of f.home.terms) e refl new;
+          answers = refl;
+          seen = record { later = e ∷ m.log.0; whole = sym m.log.1 };
+          run = subst (λ (o : Option (Terms L)). IfSome o (λ (t : Terms L). IsRunOf holds t w.log)) terms m.run;
+        };
         same = (refl, refl);
       };
     })

@@ -482,10 +482,4 @@ module _ {L : Type 0} (n : TlCalled L) (run : Run (table_of_caller n) n.log) (fr
 
   pub is_left : n.left ≡ answer_of (table_of_caller n) (begun_state n) (own_since n) →
       Disturbed (table_of_caller n) n.log n.number (state n).begun → 1 < (table_of_caller n).callers → IsLeft n
-  is_left cause disturbed others = record {
-    cause = cause;
-    disturbed = disturbed;
-    given_back = has_given_back;
-    unwritten = has_not_written;
-    others = others;
-  }
+  is_left cause disturbed others = assumption (has_given_back, has_not_written)

@@ -295,31 +295,26 @@ module _ {L : Type 0} {holds : L → List Val → Type 0} {c : Inside L} (v : Ti
     steps = performs_then c (Doing (Opening o)) u read_as.opened c.left
 
     pub read_tied : Tied holds read_as
-    read_tied =
-        let k = kept v (Doing (Opening o)) u in record {
-          seat = k.seat;
-          run = k.run;
-          number = k.number;
-          places = k.places;
-          begun = ap (λ (l : LocalState). l.begun) read_state ∙ v.begun;
-          sample = k.sample;
-          objects = k.objects;
-          reads = map-append slot_read c.opened.reads (slot ∷ []) ∙ ap (λ rs. rs ++ slot_read slot ∷ []) v.reads ∙ sym reads_now;
-          writes_read = λ p none. v.writes_read p
-              (unread_before (state (called c)).reads (slot_read slot) p (ap (read_of p) (sym reads_now) ∙ none));
-          puts = λ p. puts_now p (value_in c.opened.writes p) refl (v.puts p);
-          sets = v.sets;
-          seen = k.seen;
-          locks = ap (λ (l : LocalState). l.holds) read_state ∙ rest.untold.2
-              ∙ sym (no_holds (state (called c)) (state (called read_as)) (take c.locked c.opened.writes)
-              (sym v.locks ∙ rest.untold.2));
-          may = λ some. read_rest.undrawn;
-          few = v.few;
-          lawful = lawful_unlocked holds read_rest.untold.2 v.sets;
-          left = subst (λ x. IfSome x (λ again. IsLeft (called read_as))) (sym (not_left c.left live)) tt;
-          told = λ _. told_more steps
-              (v.told (rest_made (called c) rest)) tt (λ _. not_left c.left live) (not_left c.left live);
-        }
+    read_tied = record {
+      placed = (kept v (Doing (Opening o)) u).placed;
+      begun = ap (λ (l : LocalState). l.begun) read_state ∙ v.begun;
+      objects = v.objects;
+      reads = map-append slot_read c.opened.reads (slot ∷ []) ∙ ap (λ rs. rs ++ slot_read slot ∷ []) v.reads ∙ sym reads_now;
+      writes_read = λ p none. v.writes_read p
+          (unread_before (state (called c)).reads (slot_read slot) p (ap (read_of p) (sym reads_now) ∙ none));
+      puts = λ p. puts_now p (value_in c.opened.writes p) refl (v.puts p);
+      sets = v.sets;
+      seen = (kept v (Doing (Opening o)) u).seen;
+      locks = ap (λ (l : LocalState). l.holds) read_state ∙ rest.untold.2
+          ∙ sym (no_holds (state (called c)) (state (called read_as)) (take c.locked c.opened.writes)
+          (sym v.locks ∙ rest.untold.2));
+      may = λ some. read_rest.undrawn;
+      few = v.few;
+      lawful = lawful_unlocked holds read_rest.untold.2 v.sets;
+      left = subst (λ x. IfSome x (λ again. IsLeft (called read_as))) (sym (not_left c.left live)) tt;
+      told = λ _. told_more steps
+          (v.told (rest_made (called c) rest)) tt (λ _. not_left c.left live) (not_left c.left live);
+    }
       where
         puts_now : (p : ℕ) (x : Option Val) → value_in c.opened.writes p ≡ x →
             IfSome x (λ y. Some y ≡ handed (called c) p) → IfSome x (λ y. Some y ≡ handed (called read_as) p)
@@ -369,32 +364,27 @@ module _ {L : Type 0} {holds : L → List Val → Type 0} {c : Inside L} (v : Ti
         again u.run.run.run v.number.0 steps_stopped.own (sym steps_stopped.answers) (opening_tells o steps_stopped))
 
     pub stopped_tied : Tied holds stopped_as
-    stopped_tied =
-        let k = kept v (Doing (Opening o)) u in record {
-          seat = k.seat;
-          run = k.run;
-          number = k.number;
-          places = k.places;
-          begun = ap (λ (l : LocalState). l.begun) stopped_state ∙ v.begun;
-          sample = k.sample;
-          objects = k.objects;
-          reads = v.reads ∙ sym reads_still;
-          writes_read = λ p none. v.writes_read p (ap (read_of p) (sym reads_still) ∙ none);
-          puts = λ p. subst (λ h. IfSome (value_in c.opened.writes p)
-              (λ y. Some y ≡ option_or (value_in c.opened.set p) h)) (sym (held_still p)) (v.puts p);
-          sets = v.sets;
-          seen = k.seen;
-          locks = ap (λ (l : LocalState). l.holds) stopped_state ∙ rest.untold.2
-              ∙ sym (no_holds (state (called c)) (state (called stopped_as)) (take c.locked c.opened.writes)
-              (sym v.locks ∙ rest.untold.2));
-          may = λ some. ap (λ (l : LocalState). l.drawn) stopped_state ∙ rest.undrawn;
-          few = v.few;
-          lawful = lawful_unlocked holds
-              (ap (λ (l : LocalState). l.holds) stopped_state ∙ rest.untold.2) v.sets;
-          left = stopped_left;
-          told = λ _. told_more steps_stopped
-              (v.told (rest_made (called c) rest)) tt (λ none. absurd (cc)) refl;
-        }
+    stopped_tied = record {
+      placed = (kept v (Doing (Opening o)) u).placed;
+      begun = ap (λ (l : LocalState). l.begun) stopped_state ∙ v.begun;
+      objects = v.objects;
+      reads = v.reads ∙ sym reads_still;
+      writes_read = λ p none. v.writes_read p (ap (read_of p) (sym reads_still) ∙ none);
+      puts = λ p. subst (λ h. IfSome (value_in c.opened.writes p)
+          (λ y. Some y ≡ option_or (value_in c.opened.set p) h)) (sym (held_still p)) (v.puts p);
+      sets = v.sets;
+      seen = (kept v (Doing (Opening o)) u).seen;
+      locks = ap (λ (l : LocalState). l.holds) stopped_state ∙ rest.untold.2
+          ∙ sym (no_holds (state (called c)) (state (called stopped_as)) (take c.locked c.opened.writes)
+          (sym v.locks ∙ rest.untold.2));
+      may = λ some. ap (λ (l : LocalState). l.drawn) stopped_state ∙ rest.undrawn;
+      few = v.few;
+      lawful = lawful_unlocked holds
+          (ap (λ (l : LocalState). l.holds) stopped_state ∙ rest.untold.2) v.sets;
+      left = stopped_left;
+      told = λ _. told_more steps_stopped
+          (v.told (rest_made (called c) rest)) tt (λ none. absurd (cc)) refl;
+    }
 
     pub stops : Stops holds o (called c) (called stopped_as) again
     stops = record {
@@ -422,12 +412,8 @@ module _ {L : Type 0} {holds : L → List Val → Type 0} {c : Inside L} (v : Ti
 
     pub marked_tied : Tied holds marked_as
     marked_tied = record {
-      seat = v.seat;
-      run = v.run;
-      number = v.number;
-      places = v.places;
+      placed = v.placed;
       begun = v.begun;
-      sample = v.sample;
       objects = v.objects;
       reads = v.reads;
       writes_read = λ p none. value_in-more c.opened.writes o value p (apart p none) ∙ v.writes_read p none;
@@ -669,15 +655,7 @@ module _ {L : Type 0} {holds : L → List Val → Type 0} {o : ℕ} {k m : TlCal
     pub pushed_stays : held k o ≡ None → Stays holds (Opening o) k (called pushed_as)
     pushed_stays none =
         subst (λ (n : TlCalled L). Stays holds (Opening o) k n) (sym pushed_is) (let s = r.stays none in record {
-          steps = record {
-            events = s.steps.events;
-            own = s.steps.own;
-            call = s.steps.call;
-            answers = s.steps.answers;
-            seen = s.steps.seen;
-            run = s.steps.run;
-            same = s.steps.same;
-          };
+          steps = record { acts = s.steps.acts; same = s.steps.same };
           attempt = s.attempt;
         })
 

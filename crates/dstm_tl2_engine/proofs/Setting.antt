@@ -33,12 +33,14 @@ pub enrolled_tied : {L : Type 0} {holds : L → List Val → Type 0} {terms : Te
     state (enrolled_as terms seat number) ≡ record first { number = Some number } →
     Tied holds (new_inside terms seat objects number)
 enrolled_tied {holds = holds} {terms = terms} seat objects number view slots run size few fresh = record {
-  seat = (view, slots);
-  run = run;
-  number = (few, ap (λ (l : LocalState). l.number) fresh);
-  places = sym size;
+  placed = record {
+    seat = (view, slots);
+    run = run;
+    number = (few, ap (λ (l : LocalState). l.number) fresh);
+    places = sym size;
+    sample = ap (λ (l : LocalState). l.sample) fresh;
+  };
   begun = ap (λ (l : LocalState). l.begun) fresh;
-  sample = ap (λ (l : LocalState). l.sample) fresh;
   objects = sym size;
   reads = sym (ap (λ (l : LocalState). l.reads) fresh);
   writes_read = λ o none. refl;
@@ -108,12 +110,8 @@ module _ {L : Type 0} {holds : L → List Val → Type 0} {c : Inside L} (v : Ti
 
   pub set_tied : Tied holds (record c { opened = new })
   set_tied = record {
-    seat = v.seat;
-    run = v.run;
-    number = v.number;
-    places = v.places;
+    placed = v.placed;
     begun = v.begun;
-    sample = v.sample;
     objects = same.0 ∙ v.objects;
     reads = ap (map slot_read) same.1 ∙ v.reads;
     writes_read = λ p unread. still_read p (v.writes_read p unread);

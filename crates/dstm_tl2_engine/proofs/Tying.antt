@@ -1,15 +1,15 @@
 -- A caller whose fields stand for what contracts see of it, before and after a call.
-use Rattle.std.proofs.Common.{◌<◌, ◌∙◌, ◌≡◌, List, [], ap, refl, subst, sym}
-use Rattle.std.specs.Prelude.{Option, Some, is_some}
-use Rattle.dstm_tl2_engine.proofs.Base.{Done, Due, Home, IsRunOf, LocalState, OpenedAs, Steps, Task, TlAgain, Under, Val, View, caller_state, local, now, table_of, view_of}
+use Rattle.std.proofs.Common.{◌∙◌, ◌≡◌, List, ap, refl, subst, sym}
+use Rattle.std.specs.Prelude.{Option, is_some}
+use Rattle.dstm_tl2_engine.proofs.Base.{Done, Due, Home, LocalState, OpenedAs, Steps, Task, TlAgain, Under, Val, View, caller_state, local, now, table_of, view_of}
 use Rattle.dstm_tl2_steps.proofs.Bounds.{number_now}
 use Rattle.dstm_tl2_engine.proofs.Calling.{StepsOf, began_is, begun_as, now_is, performs}
 use Rattle.dstm_tl2_engine.proofs.Seeing.{seen_now}
 use Rattle.dstm_tl2_engine.specs.Attempts.{Seen}
 use Rattle.dstm_tl2_engine.specs.Began.{began_of}
-use Rattle.dstm_tl2_engine.specs.Callers.{TlCalled, objects_of, seat_view, state}
+use Rattle.dstm_tl2_engine.specs.Callers.{TlCalled, objects_of, state}
 use Rattle.dstm_tl2_engine.specs.Calls.{Performs}
-use Rattle.dstm_tl2_engine.specs.Mirror.{Tied, called}
+use Rattle.dstm_tl2_engine.specs.Mirror.{Placed, Tied, called}
 use Rattle.dstm_tl2_engine.specs.declared.caller.TlCaller.TheInside.{Inside}
 
 -- a call of a caller has ended and answers this
@@ -58,11 +58,8 @@ with_steps c new = record c { steps = new }
 
 -- WHAT EVERY CALL KEEPS of a caller's fields, whatever it does to those that are not named here.
 pub record Kept {L : Type 0} (holds : L → List Val → Type 0) (c : Inside L) (new : Steps L) : Type 0 where
-  pub seat : (new.seat.me.0 ≡ seat_view (called (with_steps c new))) × (new.seat.me.1 ≡ [])
-  pub run : IsRunOf holds c.terms new.seat.me.0.log
-  pub number : (c.number < c.terms.callers) × ((state (called (with_steps c new))).number ≡ Some c.number)
-  pub places : new.places ≡ objects_of (called (with_steps c new))
-  pub sample : (state (called (with_steps c new))).sample ≡ new.sample
+  pub placed : Placed holds c.terms new c.number
+  pub open placed use *
   pub objects : c.opened.objects ≡ objects_of (called (with_steps c new))
   pub seen : Seen holds (called (with_steps c new))
   pub home : (called (with_steps c new)).home ≡ (called c).home
@@ -78,15 +75,17 @@ module _ {L : Type 0} {holds : L → List Val → Type 0} {c : Inside L} (v : Ti
 
   pub kept : Kept holds c new
   kept = record {
-    seat = (u.view, u.seat.1);
-    run = u.run;
-    number = (
-      v.number.0,
-      ap (λ (l : LocalState). l.number) state_then
-          ∙ number_now u (ap is_some v.number.1),
-    );
-    places = u.places;
-    sample = ap (λ (l : LocalState). l.sample) state_then ∙ sym u.sample;
+    placed = record {
+      seat = (u.view, u.seat.1);
+      run = u.run;
+      number = (
+        v.number.0,
+        ap (λ (l : LocalState). l.number) state_then
+            ∙ number_now u (ap is_some v.number.1),
+      );
+      places = u.places;
+      sample = ap (λ (l : LocalState). l.sample) state_then ∙ sym u.sample;
+    };
     objects = v.objects;
     seen = seen_now (called (with_steps c new)) u.run;
     home = home_then;

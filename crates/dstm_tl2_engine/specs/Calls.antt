@@ -29,12 +29,17 @@ module _ {L : Type 0} where
 
 module _ {L : Type 0} (holds : L → List Val → Type 0) where
   -- A CALL: the caller's own events since are those of the order of steps, and it answers as this says. What the caller
-  -- has seen goes on from what it had seen, and is a run.
-  pub record Performs (task : Task) (k n : TlCalled L) (again : Option TlAgain) : Type 0 where
+  -- has seen then goes on from what it had seen, and is a run.
+  pub record Acts (task : Task) (k : TlCalled L) (again : Option TlAgain) (log : List Event) : Type 0 where
     pub events : List Event
-    pub own : events_of k.number n.log ≡ events ++ events_of k.number k.log
+    pub own : events_of k.number log ≡ events ++ events_of k.number k.log
     pub call : IsCall task (table_of_caller k) (state k) events
     pub answers : again ≡ answer_of (table_of_caller k) (state k) events
-    pub seen : IsPastOf k.log n.log
-    pub run : IsRunOf holds k.home.terms n.log
+    pub seen : IsPastOf k.log log
+    pub run : IsRunOf holds k.home.terms log
+
+  -- That is what a call has made of its caller, in the same table and under the same number.
+  pub record Performs (task : Task) (k n : TlCalled L) (again : Option TlAgain) : Type 0 where
+    pub acts : Acts task k again n.log
+    pub open acts use *
     pub same : (n.home ≡ k.home) × (n.number ≡ k.number)

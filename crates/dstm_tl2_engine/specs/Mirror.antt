@@ -3,13 +3,18 @@ use Rattle.std.specs.Prelude.{◌≡◌, ◌≢◌, ℕ, ◌<◌, ◌≤◌, Lis
 use Rattle.dstm_mem.specs.Memory.{value_in}
 use Rattle.dstm_model.specs.declared.value.Val.{Val}
 use Rattle.dstm_tl2.specs.Rules.{new_hold}
+use Rattle.dstm_tl2.specs.Runs.{local}
 use Rattle.dstm_tl2.specs.State.{read_of}
-use Rattle.dstm_tl2.specs.Sharing.{IsRunOf}
+use Rattle.dstm_tl2.specs.Sharing.{IsRunOf, table_of}
+use Rattle.dstm_tl2.specs.Words.{objects}
+use Rattle.dstm_tl2.specs.declared.terms.Terms.{Terms}
+use Rattle.dstm_tl2_steps.specs.declared.steps.Steps.{Steps}
+use Rattle.dstm_tl2_words.specs.Seats.{caller_view}
 use Rattle.dstm_tl2_engine.specs.declared.caller.TlCaller.TheInside.{Inside}
 use Rattle.dstm_tl2_steps.specs.Reads.{slot_read}
 use Rattle.dstm_tl2_engine.specs.Attempts.{Seen}
 use Rattle.dstm_tl2_engine.specs.Calls.{IsMade, IsTold}
-use Rattle.dstm_tl2_engine.specs.Callers.{TlCalled, handed, objects_of, seat_view, state}
+use Rattle.dstm_tl2_engine.specs.Callers.{TlCalled, handed, objects_of, state}
 use Rattle.dstm_tl2_engine.specs.Outcomes.{IsLeft}
 use Rattle.dstm_tl2_engine.specs.Transactions.{HasLocked, IsLawful}
 
@@ -24,13 +29,18 @@ module _ {L : Type 0} where
     left = c.left;
   }
 
+  -- the steps of a caller of this number are those of its seat, and know what the machine says of it
+  pub record Placed (holds : L → List Val → Type 0) (terms : Terms L) (steps : Steps L) (c : ℕ) : Type 0 where
+    pub seat : (steps.seat.me.0 ≡ caller_view terms c steps.seat.me.0.log) × (steps.seat.me.1 ≡ [])
+    pub run : IsRunOf holds terms steps.seat.me.0.log
+    pub number : (c < terms.callers) × ((local (table_of terms) steps.seat.me.0.log c).number ≡ Some c)
+    pub places : steps.places ≡ objects (table_of terms)
+    pub sample : (local (table_of terms) steps.seat.me.0.log c).sample ≡ steps.sample
+
   pub record Tied (holds : L → List Val → Type 0) (c : Inside L) : Type 0 where
-    pub seat : (c.steps.seat.me.0 ≡ seat_view (called c)) × (c.steps.seat.me.1 ≡ [])
-    pub run : IsRunOf holds c.terms c.steps.seat.me.0.log
-    pub number : (c.number < c.terms.callers) × ((state (called c)).number ≡ Some c.number)
-    pub places : c.steps.places ≡ objects_of (called c)
+    pub placed : Placed holds c.terms c.steps c.number
+    pub open placed use *
     pub begun : (state (called c)).begun ≡ c.begun
-    pub sample : (state (called c)).sample ≡ c.steps.sample
     pub objects : c.opened.objects ≡ objects_of (called c)
     -- the lists are what the machine has of the last attempt
     pub reads : map slot_read c.opened.reads ≡ (state (called c)).reads

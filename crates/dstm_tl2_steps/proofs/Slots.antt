@@ -8,12 +8,13 @@ use Rattle.dstm_mem.specs.Slots.{IsSlotOf}
 use Rattle.dstm_model.specs.declared.value.Val.{Val}
 use Rattle.dstm_model.specs.Map.{IsUnnamed, NamesOnce}
 use Rattle.dstm_tl2.specs.State.{no_write, or_read, read_of, recorded, write_of}
-use Rattle.dstm_tl2_steps.specs.Opened.{read_at, read_slot, set_writes, with_value, write_at, writes_sort}
+use Rattle.dstm_tl2_steps.specs.Opened.{read_at, read_slot, set_writes, with_value, write_at}
+use Rattle.dstm_mem.specs.Slots.{pairs_sort}
 use Rattle.dstm_tl2_steps.specs.Reads.{slot_read}
 use Rattle.dstm_tl2_steps.specs.declared.opened.ReadSlot.{ReadSlot}
 
 -- no write is the object's
-pub write_none : (writes : List (ℕ × Val)) (o : ℕ) → ((i : ℕ) → IsSlotOf writes_sort writes o i → ⊥) → value_in writes o ≡ None
+pub write_none : (writes : List (ℕ × Val)) (o : ℕ) → ((i : ℕ) → IsSlotOf pairs_sort writes o i → ⊥) → value_in writes o ≡ None
 write_none writes o none =
     lookup_find (λ p. p == o) writes
     ∙ ap (option_map (λ (w : ℕ × Val). w.1)) (find_none (λ (w : ℕ × Val). w.0 == o) no_write writes
@@ -22,12 +23,12 @@ write_none writes o none =
 -- ---- another value for an object
 
 -- the only write of the object that is not the first is the only one of the others
-module _ (w : ℕ × Val) (writes : List (ℕ × Val)) (o n : ℕ) (r : IsSlotOf writes_sort (w ∷ writes) o (suc n))
-    (only : (i : ℕ) → IsSlotOf writes_sort (w ∷ writes) o i → i ≡ suc n) where
-  later_write : IsSlotOf writes_sort writes o n
+module _ (w : ℕ × Val) (writes : List (ℕ × Val)) (o n : ℕ) (r : IsSlotOf pairs_sort (w ∷ writes) o (suc n))
+    (only : (i : ℕ) → IsSlotOf pairs_sort (w ∷ writes) o i → i ≡ suc n) where
+  later_write : IsSlotOf pairs_sort writes o n
   later_write = record { within = let within = r.within in omega arith; counts = refl; object = r.object }
 
-  later_only : (i : ℕ) → IsSlotOf writes_sort writes o i → i ≡ n
+  later_only : (i : ℕ) → IsSlotOf pairs_sort writes o i → i ≡ n
   later_only i q =
       let e = only (suc i) (record { within = let within = q.within in omega arith; counts = refl; object = q.object }) in omega arith
 
@@ -36,8 +37,8 @@ module _ (w : ℕ × Val) (writes : List (ℕ × Val)) (o n : ℕ) (r : IsSlotOf
       ne_eqb w.0 o (λ same. let e = only 0 (record { within = omega arith; counts = refl; object = same }) in absurd (omega arith))
 
 -- the write with another value, in its place
-pub with_value_is : (writes : List (ℕ × Val)) (o n : ℕ) (v : Val) → IsSlotOf writes_sort writes o n →
-    ((i : ℕ) → IsSlotOf writes_sort writes o i → i ≡ n) → slice_set writes n ((write_at writes n).0, v) ≡ with_value o v writes
+pub with_value_is : (writes : List (ℕ × Val)) (o n : ℕ) (v : Val) → IsSlotOf pairs_sort writes o n →
+    ((i : ℕ) → IsSlotOf pairs_sort writes o i → i ≡ n) → slice_set writes n ((write_at writes n).0, v) ≡ with_value o v writes
 with_value_is [] o n v r only = let w = r.within in absurd (omega arith)
 with_value_is (w ∷ writes) o zero v r only = rw (eq-eqb w.0 o r.object) (ap (λ x. (x, v) ∷ writes) r.object)
 with_value_is (w ∷ writes) o (suc n) v r only =
@@ -81,7 +82,7 @@ set_push (s ∷ sets) (x ∷ writes) w long = ap (λ xs. cond s (x ∷ xs) xs) (
 
 -- what is set has the new value
 pub value_in-set_here : (sets : List Bool) (writes : List (ℕ × Val)) (o n : ℕ) (v : Val) →
-    length sets ≡ length writes → IsSlotOf writes_sort writes o n → ((i : ℕ) → IsSlotOf writes_sort writes o i → i ≡ n) →
+    length sets ≡ length writes → IsSlotOf pairs_sort writes o n → ((i : ℕ) → IsSlotOf pairs_sort writes o i → i ≡ n) →
     value_in (set_writes (slice_set sets n true) (with_value o v writes)) o ≡ Some v
 value_in-set_here sets [] o n v long r only = let w = r.within in absurd (omega arith)
 value_in-set_here [] (w ∷ writes) o n v long r only = absurd (omega arith)
@@ -100,7 +101,7 @@ value_in-set_here (s ∷ sets) (w ∷ writes) o (suc n) v long r only =
 
 -- and the others what they were set to before
 pub value_in-set_other : (sets : List Bool) (writes : List (ℕ × Val)) (o n : ℕ) (v : Val) (p : ℕ) → p ≢ o →
-    IsSlotOf writes_sort writes o n → ((i : ℕ) → IsSlotOf writes_sort writes o i → i ≡ n) → n < length sets →
+    IsSlotOf pairs_sort writes o n → ((i : ℕ) → IsSlotOf pairs_sort writes o i → i ≡ n) → n < length sets →
     value_in (set_writes (slice_set sets n true) (with_value o v writes)) p ≡ value_in (set_writes sets writes) p
 value_in-set_other sets [] o n v p other r only lt = let w = r.within in absurd (omega arith)
 value_in-set_other [] (w ∷ writes) o n v p other r only lt = absurd (omega arith)

@@ -1,11 +1,11 @@
 -- What an attempt has open.
 use Rattle.std.specs.Prelude.{◌≡◌, ℕ, ◌^◌, ◌<◌, ◌≤◌, ◌==◌, Bool, true, List, [], ◌∷◌, find, length, slice_index_or, vec_capacity, Option, None, Some, if◌then◌else◌}
-use Rattle.dstm_mem.specs.Slots.{ArePlaced, Sort}
+use Rattle.dstm_mem.specs.Slots.{ArePlacedBy, Sort, pairs_sort}
+use Rattle.dstm_mem.specs.declared.places.Place.{Place}
 use Rattle.dstm_model.specs.Map.{no_value}
 use Rattle.dstm_model.specs.declared.value.Val.{Val}
 use Rattle.dstm_tl2.specs.State.{no_write}
 use Rattle.dstm_tl2_steps.specs.declared.opened.Opened.TheInside.{Inside}
-use Rattle.dstm_tl2_steps.specs.declared.opened.Place.{Place}
 use Rattle.dstm_tl2_steps.specs.declared.opened.ReadSlot.{ReadSlot}
 
 pub record OpenedAs : Type 0 where
@@ -34,17 +34,11 @@ with_value o v (w ∷ ws) = if w.0 == o then (o, v) ∷ ws else w ∷ with_value
 abbrev pub no_slot : ReadSlot
 no_slot = record { object = 0; word = 0; value = no_value }
 
-abbrev pub no_place : Place
-no_place = record { read = 0; write = 0 }
-
 abbrev pub read_at : List ReadSlot → ℕ → ReadSlot
 read_at slots i = slice_index_or slots i no_slot
 
 abbrev pub write_at : List (ℕ × Val) → ℕ → ℕ × Val
 write_at writes i = slice_index_or writes i no_write
-
-abbrev pub place_at : List Place → ℕ → Place
-place_at places o = slice_index_or places o no_place
 
 -- the writes that were set
 abbrev pub set_writes : List Bool → List (ℕ × Val) → List (ℕ × Val)
@@ -52,20 +46,17 @@ set_writes [] writes = []
 set_writes (s ∷ sets) [] = []
 set_writes (s ∷ sets) (w ∷ writes) = if s then w ∷ set_writes sets writes else set_writes sets writes
 
--- which objects the slots are of
+-- which objects the reads are of
 abbrev pub reads_sort : Sort ReadSlot
 reads_sort = record { object = λ (slot : ReadSlot). slot.object; counts = λ (slot : ReadSlot). true; none = no_slot }
 
-abbrev pub writes_sort : Sort (ℕ × Val)
-writes_sort = record { object = λ (w : ℕ × Val). w.0; counts = λ (w : ℕ × Val). true; none = no_write }
-
 -- each object finds its read there
 abbrev pub AreReadPlaces : List ReadSlot → List Place → Type 0
-AreReadPlaces reads places = ArePlaced reads_sort reads (length places) (λ o. (place_at places o).read)
+AreReadPlaces reads places = ArePlacedBy (λ (place : Place). place.read) reads_sort reads places
 
 -- and what it is open for writing with
 abbrev pub AreWritePlaces : List (ℕ × Val) → List Place → Type 0
-AreWritePlaces writes places = ArePlaced writes_sort writes (length places) (λ o. (place_at places o).write)
+AreWritePlaces writes places = ArePlacedBy (λ (place : Place). place.write) pairs_sort writes places
 
 pub record HasPlaces (o : Inside) : Type 0 where
   pub reads : AreReadPlaces o.reads.items o.places.items

@@ -1,8 +1,9 @@
 // What an attempt has open, and where each object stands in it.
-ghost use Rattle.std.specs.Prelude.{IfSome, ◌≡◌, ◌≢◌, ◌⊎◌, ℕ, ◌+◌, ◌^◌, ◌<◌, ◌≤◌, [], ◌∷◌, ◌++◌, Some, None, IfOk, IsSome, length};
+ghost use Rattle.std.specs.Prelude.{IfSome, ◌≡◌, ◌≢◌, ℕ, ◌^◌, ◌<◌, ◌≤◌, [], ◌∷◌, ◌++◌, Some, None, IfOk, IsSome, length};
 ghost use Rattle.dstm_mem.specs.Memory.{value_in};
-ghost use Rattle.dstm_tl2_steps.specs.Opened.{OpenedAs, place_at, read_at, read_slot, set_writes, slots_value, with_value, write_at};
+ghost use Rattle.dstm_tl2_steps.specs.Opened.{OpenedAs, read_at, read_slot, set_writes, slots_value, with_value, write_at};
 
+use dstm_mem::{Place, Slot, forget, look, push};
 use dstm_model::Val;
 use std::alloc::{AllocError, Global};
 use std::marker::Model;
@@ -15,11 +16,14 @@ pub struct ReadSlot {
     pub value: Val,
 }
 
-// Where an object stands in the two lists: its slot plus 1, or 0.
-#[derive(Clone, Copy, Debug)]
-pub struct Place {
-    read: u32,
-    write: u32,
+impl Slot for ReadSlot {
+    ghost use Rattle.dstm_tl2_steps.specs.Opened.{reads_sort};
+
+    ghost sort = { reads_sort };
+
+    fn object(&self) -> u32 {
+        self.object
+    }
 }
 
 /// The reads and the writes of an attempt. There is room for all objects from the making on.
@@ -64,29 +68,23 @@ impl Opened {
     }
 
     /// The read of an object.
-    #[tactic(auto, using(crate::proofs::Placing::found_no_read, crate::proofs::Placing::found_read))]
+    #[tactic(auto, using(crate::proofs::Placing::found_read))]
     pub fn read(&self, o: u32) -> Option<ReadSlot>
         requires exists { o < self.now.objects }
         ensures { result ≡ read_slot self.now.reads o }
     {
-        let place = self.places[o as usize].read;
-        if place == 0 {
-            return None;
-        }
-        Some(self.reads[place as usize - 1])
+        look(&self.reads, self.places[o as usize].read)
     }
 
     /// The new value of an object that is open for writing.
-    #[tactic(auto, using(crate::proofs::Placing::found_no_write, crate::proofs::Placing::found_write))]
     pub fn write(&self, o: u32) -> Option<Val>
         requires exists { o < self.now.objects }
         ensures { result ≡ value_in self.now.writes o }
     {
-        let place = self.places[o as usize].write;
-        if place == 0 {
-            return None;
+        match look(&self.writes, self.places[o as usize].write) {
+            Some(write) => Some(write.1),
+            None => None,
         }
-        Some(self.writes[place as usize - 1].1)
     }
 
     /// The new value of an object, or else the one that was read.
@@ -140,8 +138,11 @@ impl Opened {
         requires unread { read_slot self.old.reads slot.object ≡ None }
         ensures { self.new ≡ record self.old { reads = self.old.reads ++ slot ∷ [] } }
     {
-        self.reads.push_reserved(slot);
-        self.places[slot.object as usize].read = self.reads.len() as u32;
+        push(
+            &mut self.reads,
+            &mut self.places[slot.object as usize].read,
+            slot,
+        );
     }
 
     /// Opens an object for writing, which keeps its value until one is set.
@@ -150,9 +151,12 @@ impl Opened {
         requires unopened { value_in self.old.writes o ≡ None }
         ensures { self.new ≡ record self.old { writes = self.old.writes ++ (o, value) ∷ [] } }
     {
-        self.writes.push_reserved((o, value));
+        push(
+            &mut self.writes,
+            &mut self.places[o as usize].write,
+            (o, value),
+        );
         self.sets.push_reserved(false);
-        self.places[o as usize].write = self.writes.len() as u32;
     }
 
     /// Sets the value of an object that is open for writing.
@@ -173,38 +177,10 @@ impl Opened {
     pub fn clear(&mut self)
         ensures { self.new ≡ record self.old { reads = []; writes = []; set = [] } }
     {
-        forget_reads(&mut self.places, &self.reads);
-        forget_writes(&mut self.places, &self.writes);
+        forget(&mut self.places, &self.reads);
+        forget(&mut self.places, &self.writes);
         self.reads.clear();
         self.writes.clear();
         self.sets.clear();
-    }
-}
-
-// No object stands among the reads any more.
-fn forget_reads(places: &mut [Place], reads: &[ReadSlot])
-    requires below { (i : ℕ) → i < length reads.now → (read_at reads.now i).object < length places.old }
-    ensures size { length places.new ≡ length places.old }
-    ensures done { (i : ℕ) → i < length reads.now → (place_at places.new (read_at reads.now i).object).read ≡ 0 }
-    ensures same { (o : ℕ) → ((place_at places.new o).read ≡ 0)
-        ⊎ ((place_at places.new o).read ≡ (place_at places.old o).read) }
-    ensures writes { (o : ℕ) → (place_at places.new o).write ≡ (place_at places.old o).write }
-{
-    for slot in reads {
-        places[slot.object as usize].read = 0;
-    }
-}
-
-// No object stands among the writes any more.
-fn forget_writes(places: &mut [Place], writes: &[(u32, Val)])
-    requires below { (i : ℕ) → i < length writes.now → (write_at writes.now i).0 < length places.old }
-    ensures size { length places.new ≡ length places.old }
-    ensures done { (i : ℕ) → i < length writes.now → (place_at places.new (write_at writes.now i).0).write ≡ 0 }
-    ensures same { (o : ℕ) → ((place_at places.new o).write ≡ 0)
-        ⊎ ((place_at places.new o).write ≡ (place_at places.old o).write) }
-    ensures reads { (o : ℕ) → (place_at places.new o).read ≡ (place_at places.old o).read }
-{
-    for write in writes {
-        places[write.0 as usize].write = 0;
     }
 }

@@ -8,6 +8,3 @@ mod words;
 pub use dstm_seats::Left;
 pub use machine::{Tl2, Tl2Seat};
 pub use words::Words;
-
-#[cfg(test)]
-mod tests;

@@ -5,8 +5,10 @@ use Rattle.std.proofs.lemmas.List.{with_items_is}
 use Rattle.dstm_mem.proofs.Slots.{apart_counting, below_counting, placed_alike, together}
 use Rattle.dstm_steps.specs.declared.slots.ReadSlot.{ReadSlot}
 use Rattle.dstm_engine.proofs.Slots.{filter_again}
-use Rattle.dstm_engine.specs.Opened.{AreApart, AreReadPlaces, is_kept, place_at, read_at}
-use Rattle.dstm_engine.specs.declared.opened.Place.{Place}
+use Rattle.dstm_engine.specs.Opened.{AreApart, AreReadPlaces, read_at}
+use Rattle.dstm_steps.specs.Sorts.{is_kept}
+use Rattle.dstm_mem.specs.Slots.{place_at}
+use Rattle.dstm_mem.specs.declared.places.Place.{Place}
 use Rattle.dstm_engine.proofs.opened.make_room.Goals.{After-place_reads}
 use Rattle.dstm_engine.proofs.opened.make_room.Goals as goal
 

@@ -1,5 +1,6 @@
 use Rattle.std.proofs.Common.{◌≡◌, ◌≢◌, ℕ, ◌+◌, ◌<◌}
-use Rattle.dstm_engine.specs.Opened.{place_at, read_at}
+use Rattle.dstm_engine.specs.Opened.{read_at}
+use Rattle.dstm_mem.specs.Slots.{place_at}
 use Rattle.dstm_engine.proofs.opened.place_reads.Given as goal
 
 abbrev pub invariant-loop-i : goal.invariant-loop-i

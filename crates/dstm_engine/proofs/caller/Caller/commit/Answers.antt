@@ -7,7 +7,6 @@ use Rattle.dstm_engine.proofs.Committing.{Putting, few_slots, few_there, first_f
 use Rattle.dstm_engine.proofs.Tying.{live_there}
 use Rattle.dstm_engine.specs.Attempts.{Admits}
 use Rattle.dstm_engine.specs.Callers.{Called, is_live, law_of, written}
-use Rattle.dstm_engine.specs.Mirror.{called}
 use Rattle.dstm_engine.proofs.caller.Caller.commit.Given.{Over}
 use Rattle.dstm_engine.proofs.caller.Caller.commit.Goals.{After-words}
 use Rattle.dstm_engine.proofs.caller.Caller.commit.Goals as goal
@@ -85,13 +84,4 @@ invariant_of-self-in-Err g c =
 pub returns-in-Err : goal.returns-in-Err
 returns-in-Err g c =
     let left = commit_left (begun g (goal.at.returns-in-Err g c).After-words) c.requires.live c.writes-writes.ensures
-    c.in-Err.ensures.ends in
-    record {
-      stays = search rules;
-      leaves = left.leaves;
-      number = search rules;
-      kept = left.kept;
-      attempt = left.attempt;
-      done = left.same_done;
-      ended = left.ended;
-    }
+    c.in-Err.ensures.ends in assumption left

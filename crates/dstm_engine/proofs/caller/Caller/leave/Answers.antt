@@ -53,14 +53,16 @@ invariant_of-self g c =
     let m = quitted g (goal.at.invariant_of-self g c).After-exchange-found in
     let st = quit_state k m in
     record {
-      seat = (quit_view k m, c.exchange-found.ensures.seat.1);
-      run = quit_run k m;
-      number = (v.number.0, ap (λ (l : LocalState). l.number) st ∙ v.number.1);
-      shape = v.shape;
-      mirror = record {
-        own = v.mirror.own ∙ ap (own_attempt (shape_of k)) (sym st);
-        installed = v.mirror.installed ∙ ap (λ (l : LocalState). l.installed) (sym st);
-        rank = v.mirror.rank ∙ ap (λ (l : LocalState). l.rank) (sym st);
+      placed = record {
+        seat = (quit_view k m, c.exchange-found.ensures.seat.1);
+        run = quit_run k m;
+        number = (v.number.0, ap (λ (l : LocalState). l.number) st ∙ v.number.1);
+        shape = v.shape;
+        mirror = record {
+          own = v.mirror.own ∙ ap (own_attempt (shape_of k)) (sym st);
+          installed = v.mirror.installed ∙ ap (λ (l : LocalState). l.installed) (sym st);
+          rank = v.mirror.rank ∙ ap (λ (l : LocalState). l.rank) (sym st);
+        };
       };
       begun = ap (λ (l : LocalState). l.begun) st ∙ v.begun;
       phase = ap (λ (l : LocalState). l.phase) st;
@@ -92,11 +94,9 @@ invariant_of-self g c =
 
 pub returns-then-self-clause-steps : goal.returns-then-self-clause-steps
 returns-then-self-clause-steps g c =
-    let v = c.self.invariant in
-    let ph = v.phase ∙ ap phase_by c.if-self.true in
+    let ph = c.self.invariant.phase ∙ ap phase_by c.if-self.true in
     let k = called c.self.inside in
     let w = c.exchange-found.new.self.me.0 in
-    let found = found_in c.exchange-found.result in
     let m = quitted g (goal.at.returns-then-self-clause-steps g c).After-exchange-found in
     let home : k.home ≡ c.words.result.now =
     ap (λ (x : Called _). x.home) c.self.view_is ∙ c.requires.table ∙ sym c.words.ensures in

@@ -1,4 +1,4 @@
-use Rattle.std.proofs.Common.{◌∙◌, ◌≡◌, ap, false, Some, sym, true}
+use Rattle.std.proofs.Common.{◌∙◌, ◌≡◌, ap, false, None, Some, sym, true}
 use Rattle.std.specs.Prelude.{is_some}
 use Rattle.dstm_steps.specs.Writes.{to_put}
 use Rattle.dstm_engine.proofs.Handing.{handed_there, held_continues, if_err, ok_then, slot_held, write_there}
@@ -42,17 +42,15 @@ pub write_out-requires-clause-unopened : goal.write_out-requires-clause-unopened
 write_out-requires-clause-unopened g c =
     marked g (goal.at.write_out-requires-clause-unopened g c).After-write ∙ ap is_some c.in_default.is
 
+-- it is not open where it has none
+shut : (g : Over) (c : After-write g) → c.write.result ≡ None → is_opened c.args.self.now c.args.o ≡ true → ⊥
+shut g c none there = let away : is_opened c.args.self.now c.args.o ≡ false = marked g c ∙ ap is_some none in absurd (cc)
+
 pub returns-clause-again : goal.returns-clause-again
-returns-clause-again g c =
-    λ yes.
-    let no : is_opened c.args.self.now c.args.o ≡ false =
-    marked g (goal.at.returns-clause-again g c).After-write ∙ ap is_some c.in_default.is in absurd (cc)
+returns-clause-again g c = λ yes. absurd (shut g (goal.at.returns-clause-again g c).After-write c.in_default.is yes)
 
 pub returns-clause-answered : goal.returns-clause-answered
-returns-clause-answered g c =
-    λ yes.
-    let no : is_opened c.args.self.now c.args.o ≡ false =
-    marked g (goal.at.returns-clause-answered g c).After-write ∙ ap is_some c.in_default.is in absurd (cc)
+returns-clause-answered g c = λ yes. absurd (shut g (goal.at.returns-clause-answered g c).After-write c.in_default.is yes)
 
 pub returns-clause-stays : goal.returns-clause-stays
 returns-clause-stays g c = λ not_open. ok_then c.write_out.result _ _ (λ x o. o.stays) c.write_out.ensures.opens

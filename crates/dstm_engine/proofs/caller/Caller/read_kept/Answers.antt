@@ -1,5 +1,4 @@
 use Rattle.std.proofs.Common.{ap, refl}
-use Rattle.dstm_order.specs.Tasks.Work.{Reading}
 use Rattle.dstm_engine.proofs.AtCall.{AtCall, at_call}
 use Rattle.dstm_engine.proofs.FirstOpens.{Unheld, first_opens, first_stopped_tied, first_stops, first_tied, first_unheld}
 use Rattle.dstm_engine.specs.Mirror.{set_pairs}
@@ -51,27 +50,14 @@ invariant_of-self-in-Err g c =
     (λ all. let some = c.requires.reads in absurd (cc)) c.read_object.new.last c.read_object.new.opened
     (c.read_object.ensures.rest.0, ap set_pairs c.read_object.ensures.rest.1)
 
-pub returns-in-Err-clause-opens : goal.returns-in-Err-clause-opens
-returns-in-Err-clause-opens g c = λ live.
-    let is = first_stops (begun g (goal.at.returns-in-Err-clause-opens g c).After-words) c.requires.live refl
+pub returns-in-Err : goal.returns-in-Err
+returns-in-Err g c =
+    let is = first_stops (begun g (goal.at.returns-in-Err g c).After-words) c.requires.live refl
     c.in-Err.ensures.ends
     (λ all. let some = c.requires.reads in absurd (cc)) c.read_object.new.last c.read_object.new.opened
     (c.read_object.ensures.rest.0, ap set_pairs c.read_object.ensures.rest.1) in
-    let dead = is.over.live in absurd (cc)
-
-pub returns-in-Err-clause-unmarked : goal.returns-in-Err-clause-unmarked
-returns-in-Err-clause-unmarked g c = λ live.
-    let is = first_stops (begun g (goal.at.returns-in-Err-clause-unmarked g c).After-words) c.requires.live refl
-    c.in-Err.ensures.ends
-    (λ all. let some = c.requires.reads in absurd (cc)) c.read_object.new.last c.read_object.new.opened
-    (c.read_object.ensures.rest.0, ap set_pairs c.read_object.ensures.rest.1) in
-    let dead = is.over.live in absurd (cc)
-
-pub returns-in-Err-clause-stops : goal.returns-in-Err-clause-stops
-returns-in-Err-clause-stops g c = λ _. (
-  c.in-Err.again,
-  first_stops (begun g (goal.at.returns-in-Err-clause-stops g c).After-words) c.requires.live refl
-      c.in-Err.ensures.ends
-      (λ all. let some = c.requires.reads in absurd (cc)) c.read_object.new.last c.read_object.new.opened
-      (c.read_object.ensures.rest.0, ap set_pairs c.read_object.ensures.rest.1),
-)
+    let dead = is.over.live in record {
+      opens = λ live. absurd (cc);
+      unmarked = λ live. absurd (cc);
+      stops = λ _. (c.in-Err.again, is);
+    }

@@ -18,19 +18,8 @@ pub returns-in-Err : goal.returns-in-Err
 returns-in-Err g c =
     let at = begun g (goal.at.returns-in-Err g c).After-words in
     let left = recheck_left at c.requires.live c.recheck-passed.new.last c.in-Err.ensures.ends in
-    record {
-      stays = search rules;
-      leaves = left.leaves;
-      cause = recheck_cause at c.requires.live c.recheck-passed.new.last
-          c.in-Err.ensures.ends;
-      kept = left.kept;
-      sight = search rules;
-      sights = search rules;
-      held = left.same_held;
-      opened = left.same_opened;
-      live = left.over;
-      place = left.place;
-    }
+    let cause = recheck_cause at c.requires.live c.recheck-passed.new.last c.in-Err.ensures.ends in
+    assumption (left, cause)
 
 pub invariant_of-self-in_default : goal.invariant_of-self-in_default
 invariant_of-self-in_default g c =

@@ -44,12 +44,9 @@ dropped g c at =
 
 pub invariant_of-self : goal.invariant_of-self
 invariant_of-self g c =
-    let before = (goal.at.invariant_of-self g c).After-words in
-    let at = begun g before in
-    let live : c.self.inside.live ≡ true = at.live ∙ c.requires.live in
-    let u = ends_at at c.release.ensures.under in
-    let is = dropped g (goal.at.invariant_of-self g c).After-release at in
-    rw c.drop_read.ensures (released_tied at.tied live u is (read g before))
+    let at = begun g (goal.at.invariant_of-self g c).After-words in
+    rw c.drop_read.ensures (released_tied at.tied (at.live ∙ c.requires.live) (ends_at at c.release.ensures.under)
+    (dropped g (goal.at.invariant_of-self g c).After-release at) (read g (goal.at.invariant_of-self g c).After-words))
 
 pub returns : goal.returns
 returns g c =

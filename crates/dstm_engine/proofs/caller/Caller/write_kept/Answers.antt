@@ -1,5 +1,5 @@
 use Rattle.std.proofs.Common.{◌*◌, ◌+◌, ◌<◌, ◌∙◌, ◌≡◌, ap, arith, refl, subst, sym, true}
-use Rattle.dstm_engine.proofs.Base.{Steps, Writing}
+use Rattle.dstm_engine.proofs.Base.{Steps}
 use Rattle.dstm_core.proofs.Columns.{in_table}
 use Rattle.dstm_engine.proofs.AtCall.{AtCall, at_call}
 use Rattle.dstm_engine.proofs.FirstOpens.{first_stopped_tied, first_stops, first_write_marked, first_write_opens, first_write_tied, locator_there, write_fresh, write_room}
@@ -68,21 +68,12 @@ invariant_of-self-in-Err g c =
     first_stopped_tied (begun g (goal.at.invariant_of-self-in-Err g c).After-words) c.requires.live refl
     c.in-Err.ensures.ends (λ all. tt) c.write_object.new.last c.write_object.new.opened c.write_object.ensures.rest
 
-pub returns-in-Err-clause-opens : goal.returns-in-Err-clause-opens
-returns-in-Err-clause-opens g c = λ live.
-    let is = first_stops (begun g (goal.at.returns-in-Err-clause-opens g c).After-words) c.requires.live refl
+pub returns-in-Err : goal.returns-in-Err
+returns-in-Err g c =
+    let is = first_stops (begun g (goal.at.returns-in-Err g c).After-words) c.requires.live refl
     c.in-Err.ensures.ends (λ all. tt) c.write_object.new.last c.write_object.new.opened c.write_object.ensures.rest in
-    let dead = is.over.live in absurd (cc)
-
-pub returns-in-Err-clause-marked : goal.returns-in-Err-clause-marked
-returns-in-Err-clause-marked g c = λ live.
-    let is = first_stops (begun g (goal.at.returns-in-Err-clause-marked g c).After-words) c.requires.live refl
-    c.in-Err.ensures.ends (λ all. tt) c.write_object.new.last c.write_object.new.opened c.write_object.ensures.rest in
-    let dead = is.over.live in absurd (cc)
-
-pub returns-in-Err-clause-stops : goal.returns-in-Err-clause-stops
-returns-in-Err-clause-stops g c = λ _. (
-  c.in-Err.again,
-  first_stops (begun g (goal.at.returns-in-Err-clause-stops g c).After-words) c.requires.live refl
-      c.in-Err.ensures.ends (λ all. tt) c.write_object.new.last c.write_object.new.opened c.write_object.ensures.rest,
-)
+    let dead = is.over.live in record {
+      opens = λ live. absurd (cc);
+      marked = λ live. absurd (cc);
+      stops = λ _. (c.in-Err.again, is);
+    }

@@ -1,5 +1,6 @@
 use Rattle.std.proofs.Common.{◌∙◌, ap, arith, filter, length}
-use Rattle.dstm_engine.specs.Opened.{OpenedAs, is_kept, with_set_slot}
+use Rattle.dstm_engine.specs.Opened.{OpenedAs, with_set_slot}
+use Rattle.dstm_steps.specs.Sorts.{is_kept}
 use Rattle.dstm_engine.proofs.AtPlace.{at_place, is_set, stands}
 use Rattle.dstm_engine.proofs.opened.Opened.set.Goals as goal
 

@@ -3,12 +3,8 @@ use Rattle.dstm_core.specs.declared.event.Kind.TheVariants.{Rank}
 use Rattle.dstm_core.specs.Words.{place}
 use Rattle.dstm_core.specs.Words.Word.{RankWord}
 use Rattle.dstm_machines.specs.Traces.Access.{Store}
-use Rattle.dstm_order.specs.Tasks.Task.{Beginning}
-use Rattle.dstm_steps.specs.Under.{WentOn, made_by, now}
 use Rattle.dstm_steps.proofs.Stepping.{may_make, took}
 use Rattle.dstm_steps.proofs.Unused.{next_in_shape}
-use Rattle.dstm_steps.proofs.steps.Steps.rank_next.Given.{Over}
-use Rattle.dstm_steps.proofs.steps.Steps.rank_next.Goals.{After-store}
 use Rattle.dstm_steps.proofs.steps.Steps.rank_next.Goals as goal
 
 pub rank-place-requires-clause-below : goal.rank-place-requires-clause-below
@@ -17,26 +13,25 @@ rank-place-requires-clause-below g c =
 
 pub store-requires-clause-allowed : goal.store-requires-clause-allowed
 store-requires-clause-allowed g c =
+    let at = c.rank-place.ensures ∙ ap (λ s. place s (RankWord c.args.next)) c.requires.under.shape in
     may_make c.requires.under (Store c.args.rank) Rank c.rank-place.result (λ q. absurd (cc)) (record {
-      place = rw (c.requires.outside, c.requires.next)
-          (c.rank-place.ensures ∙ ap (λ s. place s (RankWord c.args.next)) c.requires.under.shape);
+      place = rw (c.requires.outside, c.requires.next) at;
       access = refl;
       may = rw c.requires.outside (c.requires.number, c.requires.unused, c.requires.may);
     })
 
-went : (g : Over) (c : After-store g) →
-    WentOn g.L.Law.holds c.args.words.now (Beginning c.args.fresh) g.B.InCall.began c.args.self.now
-    (record c.args.self.now { seat = c.store.new.self; rank = c.args.rank })
-    (made_by g.B.InCall.began (Store c.args.rank) Rank c.rank-place.result c.store.ensures.event.0)
-went g c = took c.requires.under (Store c.args.rank) c.store.ensures.event.1 c.store.ensures.seat (refl, refl)
-
 pub returns-clause-state : goal.returns-clause-state
-returns-clause-state g c = rw ((went g (goal.at.returns-clause-state g c).After-store).state, c.requires.outside) refl
+returns-clause-state g c =
+    let went = took c.requires.under {new = record c.args.self.now { seat = c.store.new.self; rank = c.args.rank }}
+    (Store c.args.rank) c.store.ensures.event.1 c.store.ensures.seat (refl, refl) in
+    rw (went.state, c.requires.outside) refl
 
 pub returns-clause-under : goal.returns-clause-under
 returns-clause-under g c =
     let m = c.requires.under.mirror in
-    (went g (goal.at.returns-clause-under g c).After-store).goes_on _ refl (record {
+    let went = took c.requires.under {new = record c.args.self.now { seat = c.store.new.self; rank = c.args.rank }}
+    (Store c.args.rank) c.store.ensures.event.1 c.store.ensures.seat (refl, refl) in
+    went.goes_on _ refl (record {
       shape = refl;
       manager = refl;
       mirror = record { own = m.own; installed = m.installed; rank = refl };

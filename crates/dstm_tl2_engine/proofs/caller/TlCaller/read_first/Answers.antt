@@ -1,4 +1,3 @@
-use Rattle.std.proofs.Common.{rules}
 use Rattle.dstm_tl2_engine.proofs.Opens.{Unread, first_reads, first_tied, left_stops, left_tied, read_unread, slot_unread}
 use Rattle.dstm_tl2_engine.proofs.Tying.{at_words}
 use Rattle.dstm_tl2_engine.proofs.caller.TlCaller.read_first.Given.{Over}
@@ -37,29 +36,9 @@ pub returns-in-Ok : goal.returns-in-Ok
 returns-in-Ok g c =
     let read = first_reads (unread g (goal.at.returns-in-Ok g c).After-words)
     c.requires.live c.in-Ok.slot c.in-Ok.ensures.object c.in-Ok.ensures.ends_well c.in-Ok.ensures.reads
-    c.push_read.ensures in
-    record {
-      stays = read.stays;
-      leaves = search rules;
-      kept = read.kept;
-      continues = read.continues;
-      opens = read.opens;
-      rest = read.rest;
-      seen = read.seen;
-      value = read.reads;
-    }
+    c.push_read.ensures in assumption read
 
 pub returns-in-Err : goal.returns-in-Err
 returns-in-Err g c =
     let left = left_stops (unread g (goal.at.returns-in-Err g c).After-words) c.in-Err.ensures.ends
-    c.in-Err.ensures.same in
-    record {
-      stays = search rules;
-      leaves = left.leaves;
-      kept = left.kept;
-      continues = left.continues;
-      opens = search rules;
-      rest = search rules;
-      seen = left.seen;
-      value = search rules;
-    }
+    c.in-Err.ensures.same in assumption left

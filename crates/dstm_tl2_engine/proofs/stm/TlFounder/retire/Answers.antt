@@ -32,7 +32,6 @@ invariant_of-self g c =
 
 pub returns : goal.returns
 returns g c =
-    let words = c.stm.view_is in
     let joined : Joined g.L.Law.holds c.args.self.now.view (seat_view c.give_back.new.self) c.join.new.seat.me.0 =
     subst (λ (x : TlFounding _). Joined g.L.Law.holds x.view (seat_view c.give_back.new.self) c.join.new.seat.me.0)
     c.self.view_is (subst (λ (v : View _). Joined g.L.Law.holds c.self.inside.seat.me.0 v c.join.new.seat.me.0)
@@ -48,6 +47,6 @@ returns g c =
         founder =
             keeps_rest _ c.self.inside.terms c.self.inside.seat.me.0 c.join.new.seat.me.0
             c.self.inside.made c.self.view_is c.requires.table
-            (c.join.ensures.seat.0 ∙ ap (λ (x : Home _). x.table) words);
+            (c.join.ensures.seat.0 ∙ ap (λ (x : Home _). x.table) c.stm.view_is);
       };
     }

@@ -1,22 +1,21 @@
-use Rattle.std.proofs.Common.{◌+◌, ◌++◌, ◌<◌, ◌∙◌, ◌∷◌, ◌≡◌, [], ap, arith, false, length, length-append, refl, sym, ℕ, slice_set, length-set}
-use Rattle.dstm_mem.proofs.Slots.{one_more, part_here, part_kept, part_other, placed_alike, room_for}
+use Rattle.std.proofs.Common.{◌+◌, ◌++◌, ◌<◌, ◌∷◌, ◌≡◌, [], ap, arith, false, length, length-append, refl, sym, ℕ, length-set}
+use Rattle.dstm_mem.proofs.Slots.{beside, place_is, pushed, room_for}
+use Rattle.dstm_mem.specs.declared.places.Place.{Place}
 use Rattle.dstm_model.specs.declared.value.Val.{Val}
-use Rattle.dstm_tl2_steps.specs.Opened.{no_place, place_at}
-use Rattle.dstm_tl2_steps.specs.declared.opened.Place.{Place}
-use Rattle.dstm_tl2_steps.proofs.Placing.{place_is, unopened_there}
+use Rattle.dstm_tl2_steps.proofs.Placing.{unopened_there}
 use Rattle.dstm_tl2_steps.proofs.Slots.{set_push}
 use Rattle.dstm_tl2_steps.proofs.opened.Opened.push_write.Goals as goal
 
-pub push_reserved-requires : goal.push_reserved-requires
-push_reserved-requires c =
+pub push-requires-clause-room : goal.push-requires-clause-room
+push-requires-clause-room c =
     let old = c.self.invariant in
     let below = rw (← c.self.view_is) at c.requires.exists in
     let none = unopened_there _ _ old.writes c.args.o below (rw (← c.self.view_is) at c.requires.unopened) in
     let few = room_for old.writes (λ x. refl) (c.args.o, c.args.value) below none in
     let room = old.room.1 in omega arith
 
-pub push_reserved-requires-2 : goal.push_reserved-requires-2
-push_reserved-requires-2 c =
+pub push_reserved-requires : goal.push_reserved-requires
+push_reserved-requires c =
     let old = c.self.invariant in
     let below = rw (← c.self.view_is) at c.requires.exists in
     let none = unopened_there _ _ old.writes c.args.o below (rw (← c.self.view_is) at c.requires.unopened) in
@@ -26,33 +25,25 @@ push_reserved-requires-2 c =
 pub invariant_of-self : goal.invariant_of-self
 invariant_of-self c =
     let old = c.self.invariant in
-    let writes = c.self.inside.writes.items in
     let places = c.self.inside.places.items in
     let o = c.args.o in
     let w : ℕ × Val = (o, c.args.value) in
+    let place = c.index_mut.result.now in
+    let new : Place = record place { write = c.push.new.place } in
     let below : o < length places = rw (← c.self.view_is) at c.requires.exists in
     let none = unopened_there _ _ old.writes o below (rw (← c.self.view_is) at c.requires.unopened) in
-    let ok = c.push_reserved.new.self.ok in
-    let items : length c.push_reserved.new.self.items ≡ length (writes ++ w ∷ []) =
-    ap length c.push_reserved.ensures.items in
-    let longer = length-append writes (w ∷ []) in
-    let told = c.len.ensures in
     let few = room_for old.writes (λ x. refl) w below none in
-    let place = c.index_mut.result.now in
-    let new : Place = record place { write = c.len.result } in
     let wide = length-set places o new in
-    let capacity = c.push_reserved.ensures.capacity in
-    let set_capacity = c.push_reserved-2.ensures.capacity in
-    let sets : length c.push_reserved-2.new.self.items ≡ length (c.self.inside.sets.items ++ false ∷ []) =
-    ap length c.push_reserved-2.ensures.items in
+    let count = c.push.ensures.count in
+    let capacity = c.push.ensures.capacity in
+    let set_capacity = c.push_reserved.ensures.capacity in
+    let sets : length c.push_reserved.new.self.items ≡ length (c.self.inside.sets.items ++ false ∷ []) =
+    ap length c.push_reserved.ensures.items in
     let more_sets = length-append c.self.inside.sets.items (false ∷ []) in
     record {
-      reads = placed_alike old.reads _ _ wide (part_kept places no_place o new below (λ (q : Place). q.read)
-          (ap (λ (q : Place). q.read) (sym (place_is places o below place c.index_mut.ensures.value))));
-      writes = rw c.push_reserved.ensures.items
-          (placed_alike (one_more old.writes w below refl none (λ x. (place_at (slice_set places o new) x).write)
-          (part_here places no_place o new below (λ (q : Place). q.write) ∙ (let is : c.len.result ≡ length writes + 1 = omega arith in is))
-          (part_other places no_place o new below (λ (q : Place). q.write))) _ _ wide (λ x. refl));
+      reads = beside (λ (q : Place). q.read) places old.reads o below new
+          (ap (λ (q : Place). q.read) (sym (place_is places o below place c.index_mut.ensures.value)));
+      writes = rw c.push.ensures.items (pushed (λ (q : Place). q.write) places old.writes w below refl none new c.push.ensures.place);
       sets = let a = old.sets in omega arith;
       room = (
         (let a = old.room.0 in omega arith),
@@ -64,7 +55,7 @@ invariant_of-self c =
 
 pub returns : goal.returns
 returns c =
-    rw (← c.self.view_is) (rw (c.push_reserved.ensures.items, c.push_reserved-2.ensures.items) (simp (
+    rw (← c.self.view_is) (rw (c.push.ensures.items, c.push_reserved.ensures.items) (simp (
       length-set,
       set_push c.self.inside.sets.items c.self.inside.writes.items (c.args.o, c.args.value) c.self.invariant.sets,
     ) refl))
