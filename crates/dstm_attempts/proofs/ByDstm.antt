@@ -108,33 +108,14 @@ module _ {L : Type 0} where
     opens_still work k m n (inl same) still = inl (still ∙ ap (λ (x : Called L). record x { set = n.set }) same)
     opens_still work k m n (inr stays) still =
         inr (subst (Stays holds work k) (sym still) (record {
-          steps = record {
-            events = stays.steps.events;
-            own = stays.steps.own;
-            call = stays.steps.call;
-            answers = stays.steps.answers;
-            seen = stays.steps.seen;
-            run = stays.steps.run;
-            generator = stays.steps.generator;
-            same = stays.steps.same;
-          };
+          steps = record { acts = stays.steps.acts; same = stays.steps.same };
           missed = stays.missed;
         }))
 
     -- what it has read still stood together
     pub stood_still : (m n : Called L) → IsStill m n → Sighted m → Sighted n
     stood_still m n still s =
-        subst Sighted (sym still) (record {
-          later = s.later;
-          sight = s.sight;
-          before = s.before;
-          log = s.log;
-          is_one = s.is_one;
-          caller = s.caller;
-          attempt = s.attempt;
-          newest = s.newest;
-          covers = s.covers;
-        })
+        subst Sighted (sym still) (record { place = s.place; newest = s.newest; covers = s.covers })
 
     -- and it may have begun at the same values
     pub may_still : (m n : Called L) → IsStill m n → (map : List Val) → MayBegin holds (Dstm m) map →

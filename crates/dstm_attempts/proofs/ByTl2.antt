@@ -81,15 +81,7 @@ module _ {L : Type 0} where
             inl (still.same ∙ ap (λ (x : TlCalled L). record x { writes = n.writes; set = n.set }) same)
         at_end (inr stays) =
             inr (subst (Stays holds (Opening o) k) (sym still.same) (record {
-              steps = record {
-                events = stays.steps.events;
-                own = stays.steps.own;
-                call = stays.steps.call;
-                answers = stays.steps.answers;
-                seen = stays.steps.seen;
-                run = stays.steps.run;
-                same = stays.steps.same;
-              };
+              steps = record { acts = stays.steps.acts; same = stays.steps.same };
               attempt = stays.attempt;
             }))
 

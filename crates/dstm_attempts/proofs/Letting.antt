@@ -1,17 +1,17 @@
 -- An attempt by DSTM that lets go of what it has set.
-use Rattle.std.proofs.Common.{◌≡◌, ◌==◌, ◌&&◌, Bool, not, ◌∙◌, ◌∷◌, ◌⊎◌, ◌+◌, ◌<◌, ℕ, List, [], ap, false, inl, inr, get_or, length, refl, subst, sym, take, true}
+use Rattle.std.proofs.Common.{◌≡◌, ◌==◌, ◌&&◌, Bool, not, ◌∙◌, ◌∷◌, ◌⊎◌, ◌+◌, ◌<◌, ℕ, List, [], ap, false, inl, inr, arith, get_or, length, refl, subst, suc, sym, take, true}
 use Rattle.std.specs.Prelude.{All, IfSome}
 use Rattle.std.proofs.lemmas.Bool.{cases_Bool, eq-eqb, eqb-true}
 use Rattle.std.proofs.lemmas.List.Elements.{All-head, All-more, All-tail, Contains-get_or}
 use Rattle.dstm_model.specs.declared.value.Val.{Val}
-use Rattle.dstm_model.specs.Map.{value_at}
+use Rattle.dstm_model.specs.Map.{no_value, value_at}
 use Rattle.dstm_mem.specs.Memory.{value_in}
 use Rattle.dstm_words.specs.Seats.{Home}
 use Rattle.dstm_engine.specs.Callers.{Called, entry, is_live}
 use Rattle.dstm_tables.specs.declared.tables.Caller.TheVariants.{Dstm}
-use Rattle.dstm_attempts.specs.Attempts.{AddsNothing, Begins, Finds, IsNotOpened, IsQuit, IsUntouched, Keeps, MayBegin}
+use Rattle.dstm_attempts.specs.Attempts.{AddsNothing, Begins, Finds, IsAbandoned, IsNotOpened, IsQuit, IsUntouched, Keeps, MayBegin, Opens}
 use Rattle.dstm_attempts.specs.declared.error.NotOpened.{NotOpened}
-use Rattle.dstm_attempts.specs.Waiting.{FindsAll, FindsChange, FindsOther, HasOther, LetsGoOf, OpensNoMore}
+use Rattle.dstm_attempts.specs.Waiting.{FindsAll, FindsChange, FindsOther, HasOther, LetsGoOf, OpensFirst, OpensNoMore, object_at}
 use Rattle.dstm_attempts.proofs.ByDstm.{home_in}
 use Rattle.dstm_attempts.proofs.UnderWay.{adds_nothing, begins_none, nothing_twice, same_law}
 
@@ -92,17 +92,30 @@ module _ {L : Type 0} where
       differs = differs;
     }
 
+    -- one object more was opened
+    pub opens_more : (count : ℕ) (pairs : List (ℕ × Val)) (k m n : Called L) → OpensFirst holds count pairs k m →
+        Opens holds false (object_at pairs count) (Dstm m) (Dstm n) → OpensFirst holds (count + 1) pairs k n
+    opens_more count pairs k m n before opens =
+        let next : OpensFirst holds (suc count) pairs k n = (m, before, opens) in
+        let one : suc count ≡ count + 1 = omega arith in
+        subst (λ c. OpensFirst holds c pairs k n) one next
+
     -- the attempt did not find the value that one of them has
-    pub finds_other_at : (first k n : Called L) (pairs : List (ℕ × Val)) (i : ℕ) (d : ℕ × Val) → i < length pairs →
-        Keeps (Dstm first) (Dstm k) → is_live k ≡ true →
-        HasOther holds n (get_or pairs i d).0 (get_or pairs i d).1
-        ⊎ ((answer : NotOpened) × IsNotOpened holds false (get_or pairs i d).0 (Dstm k) (Dstm n) answer) →
+    pub finds_other_at : (first k n : Called L) (pairs : List (ℕ × Val)) (i : ℕ) → i < length pairs →
+        OpensFirst holds i pairs first k → Keeps (Dstm first) (Dstm k) → is_live k ≡ true →
+        (HasOther holds n (object_at pairs i) (get_or pairs i (0, no_value)).1
+        × Opens holds false (object_at pairs i) (Dstm k) (Dstm n))
+        ⊎ ((answer : NotOpened) × IsNotOpened holds false (object_at pairs i) (Dstm k) (Dstm n) answer) →
         FindsOther holds first n pairs
-    finds_other_at first k n pairs i d within keeps live why = record {
-      object = (get_or pairs i d).0;
-      had = (get_or pairs i d).1;
-      one = Contains-get_or pairs i d within;
+    finds_other_at first k n pairs i within before keeps live why = record {
+      number = i;
+      below = within;
+      object = object_at pairs i;
+      object_is = refl;
+      had = (get_or pairs i (0, no_value)).1;
+      one = Contains-get_or pairs i (0, no_value) within;
       last = k;
+      before = before;
       keeps = keeps;
       live = live;
       why = why;
@@ -110,12 +123,15 @@ module _ {L : Type 0} where
 
     -- one that was begun behind it and found what it had read
     pub lets_go : (k began n : Called L) (pairs : List (ℕ × Val)) → Begins holds (Dstm k) (Dstm began) →
-        Keeps (Dstm began) (Dstm n) → FindsAll holds n pairs → OpensNoMore began n → pairs ≡ (entry k).reads →
-        LetsGoOf holds k n
-    lets_go k began n pairs begins keeps all no_more is =
+        Keeps (Dstm began) (Dstm n) → OpensFirst holds (length pairs) pairs began n → FindsAll holds n pairs →
+        OpensNoMore began n → pairs ≡ (entry k).reads → LetsGoOf holds k n
+    lets_go k began n pairs begins keeps reads all no_more is =
         let kept = adds_nothing (Dstm began) (Dstm n) keeps in
         let nothing = nothing_twice (Dstm k) (Dstm began) (Dstm n) begins.nothing kept in
         record {
+          began = began;
+          begins = begins.by_engine;
+          reads = subst (λ ps. OpensFirst holds (length ps) ps began n) is reads;
           nothing = nothing;
           begun = begins_none (Dstm began) (Dstm n) keeps ∙ begins.begun;
           live = all.live;
@@ -135,8 +151,9 @@ module _ {L : Type 0} where
     -- and one that did not
     pub finds_another : (k began found n : Called L) (pairs : List (ℕ × Val)) → Begins holds (Dstm k) (Dstm began) →
         Keeps (Dstm began) (Dstm found) → FindsOther holds began found pairs → pairs ≡ (entry k).reads →
-        Keeps (Dstm found) (Dstm n) → IsQuit (Dstm n) → FindsChange holds (Dstm k) (Dstm n)
-    finds_another k began found n pairs begins keeps other is left quit = inr (record {
+        Keeps (Dstm found) (Dstm n) → IsQuit (Dstm n) → IsAbandoned holds (Dstm found) (Dstm n) →
+        FindsChange holds (Dstm k) (Dstm n)
+    finds_another k began found n pairs begins keeps other is left quit leaves = inr (record {
       began = began;
       begins = begins.by_engine;
       found = found;
@@ -144,4 +161,5 @@ module _ {L : Type 0} where
       other = subst (FindsOther holds began found) is other;
       left = left;
       quit = quit;
+      leaves = leaves;
     })

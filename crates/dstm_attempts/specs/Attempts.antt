@@ -1,5 +1,5 @@
 -- What an attempt under way has read and set, what a call on it leaves, and how it ends, by either engine.
-use Rattle.std.specs.Prelude.{◌≡◌, ◌≢◌, ℕ, ◌+◌, ◌≤◌, Bool, true, false, List, Option, Result, Err, IsTrue, slice_set}
+use Rattle.std.specs.Prelude.{◌≡◌, ◌≢◌, ◌⊎◌, ℕ, ◌+◌, ◌≤◌, Bool, true, false, List, Option, Result, Err, IsTrue, slice_set}
 use Rattle.dstm_model.specs.Answers.{Committed}
 use Rattle.dstm_model.specs.declared.value.Val.{Val}
 use Rattle.dstm_model.specs.Map.{value_at}
@@ -170,6 +170,12 @@ module _ {L : Type 0} where
     BeginsAnew (Tl2 k) (Tl2 n) = tl2_calls.BeginsAnew holds k n
     BeginsAnew k n = ⊥
 
+    -- NO ATTEMPT HAS BEGUN, since none was left, in the engine's words
+    abbrev pub BeginsNone : Caller L → Caller L → Type 0
+    BeginsNone (Dstm k) (Dstm n) = dstm_calls.SpentFrom holds k n
+    BeginsNone (Tl2 k) (Tl2 n) = tl2_calls.SpentFrom holds k n
+    BeginsNone k n = ⊥
+
     -- AN ATTEMPT HAS BEGUN: it has set nothing, and there are values that the objects may have
     pub record Begins (k n : Caller L) : Type 0 where
       pub by_engine : BeginsAnew k n
@@ -222,6 +228,12 @@ module _ {L : Type 0} where
       pub why : NotOpenedFor writes o old new answer
       pub unset : SetsNothing old new
 
+    -- THE ATTEMPT WAS LEFT, and nothing else was done: by DSTM in its steps for that, if it was not over; by TL2 in none
+    abbrev pub IsAbandoned : Caller L → Caller L → Type 0
+    IsAbandoned (Dstm old) (Dstm new) = by_dstm.IsAbandoned holds old new
+    IsAbandoned (Tl2 old) (Tl2 new) = new ≡ old
+    IsAbandoned old new = ⊥
+
     -- a commit that did not take effect
     abbrev pub IsLost : Caller L → Caller L → Type 0
     IsLost (Dstm old) (Dstm new) = by_dstm.IsLost holds old new
@@ -248,6 +260,14 @@ module _ {L : Type 0} where
         AddsNothing (Tl2 old) (Tl2 new) × ((tl2_callers.state new).begun ≡ (tl2_callers.state old).begun + 1)
         × ((tl2_callers.state new).sample ≢ since)
     LooksChanged since old new = ⊥
+
+    -- A LOOK IS ONE, whether it has found a change or not, and nothing else is done. By DSTM the attempt has made sure of what
+    -- it has read once, unless it was over. By TL2 an attempt was begun.
+    abbrev pub LooksOnce : Caller L → Caller L → Type 0
+    LooksOnce (Dstm old) (Dstm new) =
+        dstm_calls.Stays holds Rechecking old new ⊎ by_dstm.IsOver holds Rechecking old new
+    LooksOnce (Tl2 old) (Tl2 new) = tl2_calls.BeginsAnew holds old new
+    LooksOnce old new = ⊥
 
     -- the caller has committed an attempt more, and this is right for the values before and after it, in every run
     abbrev pub Settles : (is_right : List Val → List Val → Type 0) → Caller L → Caller L → ℕ → Type 0

@@ -34,8 +34,9 @@ module _ {L : Type 0} where
   IsClosed k = goes_on k ≡ false
 
   module _ (holds : L → List Val → Type 0) where
-    -- an attempt has taken effect under this number
+    -- an attempt has taken effect under this number, in the steps of one commit
     pub record TakesEffect (old new : TlCalled L) (number : ℕ) : Type 0 where
+      pub stays : Stays holds (Committing old.writes) old new
       pub commits : Commits old new number
       pub kept : new ≡ record old { log = new.log; left = None }
       pub run : IsRunOf holds old.home.terms new.log

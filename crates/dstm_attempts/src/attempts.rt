@@ -1,7 +1,7 @@
-ghost use Rattle.std.specs.Prelude.{◌≡◌, ◌<◌, ◌≤◌, List, true, false, IfErr, IfOk, Ok, OnOk};
+ghost use Rattle.std.specs.Prelude.{◌≡◌, ◌≢◌, ◌<◌, ◌≤◌, List, true, false, IfErr, IfOk, Ok, OnOk};
 ghost use Rattle.dstm_model.specs.declared.value.Val.{Val};
 ghost use Rattle.dstm_tables.specs.Callers.{begun, home_of};
-ghost use Rattle.dstm_attempts.specs.Attempts.{AddsNothing, Begins, Finds, Flags, IsClosed, IsLost, IsNotOpened, IsOpened, IsQuit, IsSpent, IsStill, Keeps, LeavesLawful, LooksChanged, LooksSame, LooksSpent, MayBegin, Opens, Puts, Refuses, StoodTogether, TakesEffect, attempts_of, clock, is_under_way, objects_of, renewed};
+ghost use Rattle.dstm_attempts.specs.Attempts.{AddsNothing, Begins, BeginsNone, Finds, Flags, IsAbandoned, IsClosed, IsLost, IsNotOpened, IsOpened, IsQuit, IsSpent, IsStill, Keeps, LeavesLawful, LooksChanged, LooksOnce, LooksSame, LooksSpent, MayBegin, Opens, Puts, Refuses, StoodTogether, TakesEffect, attempts_of, clock, is_under_way, objects_of, renewed};
 ghost use Rattle.dstm_attempts.specs.Waiting.{FindsChange, HasNoRoom, IsSpentLettingGo, LetsGo, RenewsNothing};
 ghost use Rattle.dstm_attempts.specs.declared.error.Look.TheVariants as look;
 
@@ -111,6 +111,7 @@ impl<L: Law> Attempts<L> {
     pub fn begin(&mut self, table: &Table<L>) -> Result<(), Spent>
         requires table { home_of self.old.caller ≡ table.now }
         ensures begins { OnOk result (Begins L.holds self.old.caller self.new.caller) }
+        ensures unbegun { IfErr result (λ _. BeginsNone L.holds self.old.caller self.new.caller) }
         ensures spent { IfErr result (λ _. IsSpent self.new.caller) }
         ensures none { IfErr result (λ _. begun self.new.caller ≡ begun self.old.caller) }
         ensures quit { IfErr result (λ _. IsQuit self.new.caller) }
@@ -227,6 +228,7 @@ impl<L: Law> Attempts<L> {
     /// Leaves the attempt. By TL2 there is nothing to do for it.
     pub fn abandon(&mut self, table: &Table<L>)
         requires table { home_of self.old.caller ≡ table.now }
+        ensures leaves { IsAbandoned L.holds self.old.caller self.new.caller }
         ensures keeps { Keeps self.old.caller self.new.caller }
         ensures quit { IsQuit self.new.caller }
     {
@@ -268,6 +270,7 @@ impl<L: Law> Attempts<L> {
         ensures same { result ≡ look.Same → LooksSame since self.old.caller self.new.caller }
         ensures changed { result ≡ look.Changed → LooksChanged L.holds since self.old.caller self.new.caller }
         ensures spent { result ≡ look.Spent → LooksSpent self.old.caller self.new.caller }
+        ensures once { result ≢ look.Spent → LooksOnce L.holds self.old.caller self.new.caller }
         ensures live { result ≡ look.Same → is_under_way self.new.caller ≡ true }
         ensures nothing { AddsNothing self.old.caller self.new.caller }
     {

@@ -1,9 +1,9 @@
 // The calls on an attempt that the callers of both engines answer, and what each call leaves, in the words of both.
-ghost use Rattle.std.specs.Prelude.{◌≡◌, ◌<◌, List, true, false, IfErr, IfOk, OnOk};
+ghost use Rattle.std.specs.Prelude.{◌≡◌, ◌≢◌, ◌<◌, List, true, false, IfErr, IfOk, OnOk};
 ghost use Rattle.dstm_model.specs.declared.value.Val.{Val};
 ghost use Rattle.dstm_tables.specs.Callers.{begun};
 ghost use Rattle.dstm_tables.specs.declared.tables.Caller.{Caller};
-ghost use Rattle.dstm_attempts.specs.Attempts.{AddsNothing, Begins, Finds, Flags, IsLost, IsNotOpened, IsOpened, IsQuit, IsSpent, IsStill, Keeps, LeavesLawful, LooksChanged, LooksSame, LooksSpent, MayBegin, Opens, Puts, Refuses, StoodTogether, TakesEffect, is_under_way, objects_of};
+ghost use Rattle.dstm_attempts.specs.Attempts.{AddsNothing, Begins, BeginsNone, Finds, Flags, IsLost, IsNotOpened, IsOpened, IsQuit, IsSpent, IsStill, Keeps, LeavesLawful, LooksChanged, LooksOnce, LooksSame, LooksSpent, MayBegin, Opens, Puts, Refuses, StoodTogether, TakesEffect, is_under_way, objects_of};
 ghost use Rattle.dstm_attempts.specs.Waiting.{MarksNoMore, RenewsNothing};
 ghost use Rattle.dstm_attempts.specs.declared.error.Look.TheVariants as look;
 
@@ -28,6 +28,7 @@ pub(crate) trait Calls<L: Law, T> {
     fn begin(&mut self, going: &mut bool, table: &T) -> Result<(), Spent>
         requires table { home self.old ≡ place table.now }
         ensures begins { OnOk result (Begins L.holds (caller self.old) (caller self.new)) }
+        ensures unbegun { IfErr result (λ _. BeginsNone L.holds (caller self.old) (caller self.new)) }
         ensures spent { IfErr result (λ _. IsSpent (caller self.new)) }
         ensures none { IfErr result (λ _. begun (caller self.new) ≡ begun (caller self.old)) }
         ensures quit { IfErr result (λ _. IsQuit (caller self.new)) }
@@ -96,6 +97,7 @@ pub(crate) trait Calls<L: Law, T> {
         ensures same { result ≡ look.Same → LooksSame since (caller self.old) (caller self.new) }
         ensures changed { result ≡ look.Changed → LooksChanged L.holds since (caller self.old) (caller self.new) }
         ensures spent { result ≡ look.Spent → LooksSpent (caller self.old) (caller self.new) }
+        ensures once { result ≢ look.Spent → LooksOnce L.holds (caller self.old) (caller self.new) }
         ensures live { result ≡ look.Same → is_under_way (caller self.new) ≡ true }
         ensures nothing { AddsNothing (caller self.old) (caller self.new) }
         ensures flags { Flags going.new (caller self.new) };

@@ -1,12 +1,12 @@
 //! Attempts by DSTM.
 
-ghost use Rattle.std.specs.Prelude.{◌≡◌, ◌≤◌, List, true, false, IfErr, Ok, OnOk};
+ghost use Rattle.std.specs.Prelude.{◌≡◌, ◌≤◌, List, length, true, false, IfErr, Ok, OnOk};
 ghost use Rattle.dstm_model.specs.declared.value.Val.{Val};
 ghost use Rattle.dstm_words.specs.Seats.{Home};
 ghost use Rattle.dstm_tables.specs.Callers.{begun};
 ghost use Rattle.dstm_tables.specs.declared.tables.Caller.TheVariants.{Dstm};
-ghost use Rattle.dstm_attempts.specs.Attempts.{AddsNothing, Flags, IsQuit, IsUntouched, Keeps, MayBegin};
-ghost use Rattle.dstm_attempts.specs.Waiting.{FindsAll, FindsChange, FindsOther, HasNoRoom, IsSpentLettingGo, LetsGo, OpensNoMore, RenewsNothing};
+ghost use Rattle.dstm_attempts.specs.Attempts.{AddsNothing, Flags, IsAbandoned, IsQuit, IsUntouched, Keeps, MayBegin};
+ghost use Rattle.dstm_attempts.specs.Waiting.{FindsAll, FindsChange, FindsOther, HasNoRoom, IsSpentLettingGo, LetsGo, OpensFirst, OpensNoMore, RenewsNothing};
 ghost use Rattle.dstm_attempts.specs.declared.error.Look.TheVariants as look;
 
 use crate::calls::Calls;
@@ -96,6 +96,7 @@ impl<L: Law> Calls<L, Stm<L>> for Caller<L> {
 /// Leaves the attempt.
 pub(crate) fn abandon<L: Law>(caller: &mut Caller<L>, going: &mut bool, stm: &Stm<L>)
     requires table { caller.old.home ≡ stm.now }
+    ensures leaves { IsAbandoned L.holds (Dstm caller.old) (Dstm caller.new) }
     ensures keeps { Keeps (Dstm caller.old) (Dstm caller.new) }
     ensures quit { IsQuit (Dstm caller.new) }
     ensures going { going.new ≡ false }
@@ -153,6 +154,7 @@ fn read_all<L: Law>(
     ensures keeps { Keeps (Dstm caller.old) (Dstm caller.new) }
     ensures same { result ≡ true → FindsAll L.holds caller.new values.now }
     ensures other { result ≡ false → FindsOther L.holds caller.old caller.new values.now }
+    ensures reads { result ≡ true → OpensFirst L.holds (length values.now) values.now caller.old caller.new }
     ensures unmarked { result ≡ true → OpensNoMore caller.old caller.new }
     ensures flags { Flags going.new (Dstm caller.new) }
 {

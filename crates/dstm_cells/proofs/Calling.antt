@@ -1,6 +1,6 @@
 -- What is known of a closure's calls.
 use Rattle.std.proofs.Common.{◌≡◌, List, ap, refl, subst, sym}
-use Rattle.std.specs.Prelude.{Result, IfErr, IsErrAnd, Ok, Err}
+use Rattle.std.specs.Prelude.{Result, IfErr, IfOk, IsErrAnd, Ok, Err}
 use denote.Ref.{MutBor}
 use Rattle.std.specs.Fn.{Called, CalledAtMut, FnOnceReturnsAtMut, Mut, Once}
 use Rattle.dstm_model.specs.declared.value.Val.{Val}
@@ -62,3 +62,9 @@ is_err (Err e) why P is p = subst P (sym is) p
 pub err_is : {R E : Type 0} (answer : Result R E) (why : E) → IsErrAnd answer (λ e. e ≡ why) → answer ≡ Err why
 err_is (Ok r) why is = absurd is
 err_is (Err e) why is = ap Err is
+
+-- what follows from an answer, whichever it is, and holds of an error
+pub either_way : {R E X : Type 0} (answer : Result R E) (P : R → Type 0) → IfOk answer P → ((r : R) → P r → X) →
+    IfErr answer (λ _. X) → X
+either_way (Ok r) P holds follows fails = follows r holds
+either_way (Err e) P holds follows fails = fails

@@ -282,16 +282,7 @@ module _ {L F T : Type 0} {ghosts : Ghosts L} (holds : L → List Val → Type 0
   -- what follows from what is told of its ends is told of them too
   pub tells_more : {told more : (ℕ → End T) → Type 0} → ((ends : ℕ → End T) → told ends → more ends) →
       RanOn holds g f engine rule values threads after told → RanOn holds g f engine rule values threads after more
-  tells_more follows ran = record {
-    table = ran.table;
-    starts = ran.starts;
-    works = ran.works;
-    ends = ran.ends;
-    called = ran.called;
-    tells = follows ran.ends ran.tells;
-    left = ran.left;
-    takes = ran.takes;
-  }
+  tells_more follows x = record { ran = x.ran; tells = follows x.ends x.tells }
 
 -- ---- callers that are given out and taken back in turn
 

@@ -1,5 +1,5 @@
 -- How many attempts a caller has and has begun.
-use Rattle.std.proofs.Common.{◌+◌, ◌∙◌, ◌≡◌, ap, arith, refl, sym, ℕ, List}
+use Rattle.std.proofs.Common.{◌+◌, ◌∙◌, ◌≡◌, ap, arith, false, inl, refl, sym, true, Bool, ℕ, List}
 use Rattle.dstm_model.specs.declared.value.Val.{Val}
 use Rattle.dstm_tl2_engine.specs.Callers.{TlCalled}
 use Rattle.dstm_tables.specs.Callers.{home_of}
@@ -7,8 +7,8 @@ use Rattle.dstm_tables.specs.Tables.{attempts_there}
 use Rattle.dstm_tables.specs.declared.tables.Caller.{Caller}
 use Rattle.dstm_tables.specs.declared.tables.Caller.TheVariants.{Dstm, Tl2}
 use Rattle.dstm_tables.specs.declared.tables.Table.TheVariants as table
-use Rattle.dstm_attempts.specs.Attempts.{AddsNothing, Begins, Keeps, TakesEffect, attempts_of, begun, renewed}
-use Rattle.dstm_attempts.proofs.UnderWay.{adds_nothing, begins_none, nothing_twice}
+use Rattle.dstm_attempts.specs.Attempts.{AddsNothing, Begins, IsClosed, IsLost, IsQuit, Keeps, TakesEffect, attempts_of, begun, renewed}
+use Rattle.dstm_attempts.proofs.UnderWay.{adds_nothing, begins_none, lost_quit, nothing_twice, takes_quit}
 
 module _ {L : Type 0} where
   attempts_are : (k : Caller L) → attempts_of k ≡ attempts_there (home_of k)
@@ -41,3 +41,19 @@ module _ {L : Type 0} where
     takes_home (Tl2 k) (Tl2 n) taken = ap (λ (m : TlCalled L). table.Tl2 m.home) taken.takes.kept
     takes_home (Dstm k) (Tl2 n) taken = absurd taken.takes
     takes_home (Tl2 k) (Dstm n) taken = absurd taken.takes
+
+    -- a commit stays with its table, and leaves no attempt live, whether it takes effect or not
+    pub ended_home : (k n : Caller L) (takes : Bool) → (takes ≡ true → TakesEffect holds k n) → (takes ≡ false → Keeps k n) →
+        home_of n ≡ home_of k
+    ended_home k n true took keeps = takes_home k n (took refl)
+    ended_home k n false took keeps = (adds_nothing k n (keeps refl)).home
+
+    pub ended_quit : (k n : Caller L) (takes : Bool) → (takes ≡ true → TakesEffect holds k n) →
+        (takes ≡ false → IsLost holds k n) → IsQuit n
+    ended_quit k n true took lost = takes_quit holds k n (took refl)
+    ended_quit k n false took lost = lost_quit holds k n (lost refl)
+
+    -- an attempt that is over is lost as it is
+    pub closed_lost : (k : Caller L) → IsClosed k → IsLost holds k k
+    closed_lost (Dstm k) closed = inl (closed, refl)
+    closed_lost (Tl2 k) closed = inl (closed, refl)

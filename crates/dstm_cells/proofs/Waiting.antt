@@ -1,14 +1,13 @@
 -- What looks leave, and what follows a stop.
-use Rattle.std.proofs.Common.{◌+◌, ◌≤◌, ◌∙◌, ◌≡◌, ap, arith, refl, ℕ, List}
+use Rattle.std.proofs.Common.{◌+◌, ◌≤◌, ◌∙◌, ◌≡◌, ap, arith, refl, subst, suc, ℕ, List}
 use Rattle.dstm_model.specs.declared.value.Val.{Val}
 use Rattle.dstm_tables.specs.Callers.{home_of}
 use Rattle.dstm_tables.specs.declared.tables.Caller.{Caller}
 use Rattle.dstm_tables.specs.declared.tables.Caller.TheVariants.{Dstm, Tl2}
-use Rattle.dstm_tables.specs.declared.tables.Table.TheVariants as table
-use Rattle.dstm_attempts.specs.Attempts.{AddsNothing, Attempt, Keeps, LooksChanged, LooksSame, LooksSpent, attempt, begun, clock}
+use Rattle.dstm_attempts.specs.Attempts.{AddsNothing, Attempt, Keeps, LooksChanged, LooksOnce, LooksSame, LooksSpent, begun, clock}
 use Rattle.dstm_attempts.specs.Waiting.{RenewsNothing}
 use Rattle.dstm_attempts.proofs.UnderWay.{adds_nothing, begins_none, nothing_twice, renews_kept, renews_twice}
-use Rattle.dstm_cells.specs.Attempts.{StaysFor, StaysLooking, StaysWaiting, looked}
+use Rattle.dstm_cells.specs.Attempts.{LooksInTurn, StaysFor, StaysLooking, StaysWaiting, looked}
 use Rattle.dstm_cells.specs.declared.error.Why.{Why}
 use Rattle.dstm_cells.specs.declared.error.Why.TheVariants.{Again, Retry, Foreign, Memory}
 
@@ -36,6 +35,14 @@ module _ {L : Type 0} where
   looks_on (Dstm first) (Dstm k) (Tl2 n) since stays look = absurd look
   looks_on (Tl2 first) (Tl2 k) (Dstm n) since stays look = absurd look
   looks_on first k n since stays look = absurd stays
+
+  -- one look more
+  pub looks_more : (holds : L → List Val → Type 0) (count : ℕ) (k m n : Caller L) → LooksInTurn holds count k m →
+      LooksOnce holds m n → LooksInTurn holds (count + 1) k n
+  looks_more holds count k m n before once =
+      let next : LooksInTurn holds (suc count) k n = (m, before, once) in
+      let one : suc count ≡ count + 1 = omega arith in
+      subst (λ c. LooksInTurn holds c k n) one next
 
   -- and the clock then
   pub still_at : (k n : Caller L) (since : ℕ) → since ≡ clock k → LooksSame since k n → clock n ≡ clock k

@@ -9,6 +9,7 @@ use Rattle.dstm_cells.specs.declared.error.Stop.{Stop}
 use Rattle.dstm_cells.specs.declared.error.Why.TheVariants.{Retry}
 use Rattle.dstm_cells.specs.declared.under_way.Tx.{Tx}
 use Rattle.dstm_cells.specs.declared.under_way.Undo.{Undo}
+use Rattle.dstm_attempts.specs.Attempts.{IsStill, Opens}
 use Rattle.dstm_cells.specs.UnderWay.{Keeps, MayBegin, StopsChange, seen, stop_by}
 
 -- these values, with each of these objects set back, the last one first
@@ -44,11 +45,16 @@ module _ {L : Type 0} where
       pub back : (map : List Val) → MayBegin holds new.caller map →
           set_back added (seen new.caller map) ≡ seen old.caller map
 
-    -- a call goes on with the same attempt, and notes what it sets where it is in an alternative
-    pub record Notes (old new : Noting L) : Type 0 where
+    -- it is still the same attempt, and has noted what it has set since where it was in an alternative
+    pub record HasNoted (old new : Noting L) : Type 0 where
       pub keeps : Keeps old.caller new.caller
       pub same : settings new ≡ settings old
       pub noted : old.notes ≡ true → IsNoted old new
+
+    -- a call goes on with the same attempt, and notes what it sets where it is in an alternative: so whatever was noted from a
+    -- first state up to it, is noted up to its end
+    abbrev pub Notes : Noting L → Noting L → Type 0
+    Notes old new = (first : Noting L) → HasNoted first old → HasNoted first new
 
     -- of what was noted behind the first ones, these are left, and what they set is still to be set back
     pub record Undoes (first added left : List Undo) (old new : Noting L) : Type 0 where
@@ -65,12 +71,32 @@ module _ {L : Type 0} where
       pub narrows : (map : List Val) → MayBegin holds new.caller map → MayBegin holds old.caller map
       pub same : (map : List Val) → MayBegin holds new.caller map → seen new.caller map ≡ seen old.caller map
 
-    -- why undoing stops: a call that sets an object back does, one of those that were noted
+    -- an object was opened for writing, where it was not open, and set; and nothing else was done
+    pub record OpensAndSets (object : ℕ) (old new : Caller L) : Type 0 where
+      pub opened : Caller L
+      pub once : Opens holds true object old opened
+      pub still : IsStill opened new
+
+    -- that was done of each of these, the last one first
+    abbrev pub SetsBackEach : List Undo → Caller L → Caller L → Type 0
+    SetsBackEach [] old new = new ≡ old
+    SetsBackEach (undo ∷ later) old new =
+        (between : Caller L) × SetsBackEach later old between × OpensAndSets undo.object between new
+
+    -- so far, those behind the ones that are left were set back
+    pub record HasSetBack (undos left : List Undo) (old new : Caller L) : Type 0 where
+      pub back : List Undo
+      pub are : undos ≡ left ++ back
+      pub each : SetsBackEach back old new
+
+    -- why undoing stops: a call that sets an object back does, the last of those that are left
     pub record StopsUndoing (undos : List Undo) (old new : Caller L) (stop : Stop) : Type 0 where
       pub undo : Undo
       pub noted : Contains undos undo
       pub last : Caller L
       pub keeps : Keeps old last
+      pub before : List Undo
+      pub so_far : HasSetBack undos (before ++ undo ∷ []) old last
       pub stops : StopsChange holds false undo.object last new stop.why
 
 module _ {X L F R : Type 0} (noting : X → Noting L)
@@ -106,6 +132,7 @@ module _ {X L F G R : Type 0} (noting : X → Noting L) (holds : L → List Val 
     pub retries : CalledOn noting g first (in_alternative k) (Err (stop_by Retry)) left
     pub between : Noting L
     pub undone : IsUndone holds k between
+    pub back : HasSetBack holds left.undos k.undos left.caller between.caller
     pub stays : (map : List Val) → MayBegin holds between.caller map → MayBegin holds left.caller map
     pub called : CalledOn noting h second between answer n
 

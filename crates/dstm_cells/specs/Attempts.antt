@@ -1,10 +1,10 @@
 -- How the attempts of a transaction follow one another, and why there is no further one.
-use Rattle.std.specs.Prelude.{◌≡◌, ◌⊎◌, ℕ, zero, suc, ◌+◌, ◌≤◌, true, false, List, Result, Ok, Err}
+use Rattle.std.specs.Prelude.{◌≡◌, ◌⊎◌, ℕ, zero, suc, ◌+◌, ◌<◌, ◌≤◌, Bool, true, false, List, Result, Ok, Err}
 use Rattle.dstm_model.specs.declared.value.Val.{Val}
 use Rattle.dstm_engine.specs.Attempts.{sights}
 use Rattle.dstm_tables.specs.declared.tables.Caller.{Caller}
 use Rattle.dstm_tables.specs.declared.tables.Caller.TheVariants.{Dstm, Tl2}
-use Rattle.dstm_attempts.specs.Attempts.{AddsNothing, Begins, IsLost, IsNotOpened, IsSpent, Keeps, LooksChanged, LooksSpent, Opens, begun, clock, is_under_way, objects_of}
+use Rattle.dstm_attempts.specs.Attempts.{AddsNothing, Begins, BeginsNone, IsAbandoned, IsLost, IsNotOpened, IsQuit, IsSpent, Keeps, LooksChanged, LooksOnce, LooksSpent, Opens, begun, clock, is_under_way, objects_of}
 use Rattle.dstm_attempts.specs.Waiting.{FindsChange, HasNoRoom, IsSpentLettingGo, LetsGo, RenewsNothing}
 use Rattle.dstm_attempts.specs.declared.error.NotOpened.TheVariants.{Over}
 use Rattle.dstm_cells.specs.declared.error.GaveUp.{GaveUp}
@@ -39,14 +39,16 @@ module _ {L : Type 0} where
   StaysFor Foreign old new = Keeps old new
   StaysFor Memory old new = Keeps old new
 
-  -- nothing had changed at any of so many looks, as they have left the caller: under DSTM all that the attempt had read was
-  -- current; under TL2 no transaction had drawn a number since the attempt began
-  pub record WaitedInVain (most : ℕ) (old new : Caller L) : Type 0 where
-    pub stays : StaysLooking old new
-    pub looks : looked new ≡ looked old + most
-    pub still : clock new ≡ clock old
-
   module _ (holds : L → List Val → Type 0) where
+    -- An attempt was left, so that nothing of it has taken effect. It was under way until then, where that is told; else it was
+    -- over, and nothing was done.
+    pub record IsLeft (was_live : Bool) (old new : Caller L) : Type 0 where
+      pub live : was_live ≡ true → is_under_way old ≡ true
+      pub leaves : was_live ≡ true → IsAbandoned holds old new
+      pub still : was_live ≡ false → new ≡ old
+      pub keeps : Keeps old new
+      pub quit : IsQuit new
+
     -- the objects below this one were opened for reading, one after the other, and nothing else was done
     abbrev pub ReadsInTurn : (object : ℕ) → Caller L → Caller L → Type 0
     ReadsInTurn zero k n = n ≡ k
@@ -92,27 +94,47 @@ module _ {L : Type 0} where
       pub count : ℕ
       pub last : Caller L
       pub disturbed : WereDisturbed count old last
-      pub ends : ((count ≡ attempts) × (new ≡ last)) ⊎ (IsSpent new × (begun new ≡ begun last))
+      pub ends : ((count ≡ attempts) × (new ≡ last)) ⊎ (BeginsNone holds last new × IsSpent new × (begun new ≡ begun last))
 
-    -- A look found a change, and left the caller so: under DSTM that something which the attempt had read has changed; under TL2
-    -- that a transaction has drawn a number since the attempt began. The attempt was under way then, unless it was over before
-    -- the first look.
-    pub record WasWoken (old new : Caller L) : Type 0 where
+    -- so many looks, one after the other, and nothing else was done
+    abbrev pub LooksInTurn : (looks : ℕ) → Caller L → Caller L → Type 0
+    LooksInTurn zero k n = n ≡ k
+    LooksInTurn (suc looks) k n = (m : Caller L) × LooksInTurn looks k m × LooksOnce holds m n
+
+    -- nothing had changed at any of so many looks, as they have left the caller: under DSTM all that the attempt had read was
+    -- current; under TL2 no transaction had drawn a number since the attempt began
+    pub record WaitedInVain (most : ℕ) (old new : Caller L) : Type 0 where
+      pub in_turn : LooksInTurn most old new
+      pub stays : StaysLooking old new
+      pub looks : looked new ≡ looked old + most
+      pub still : clock new ≡ clock old
+
+    -- A look found a change, behind fewer than so many that did not, and left the caller so: under DSTM that something which the
+    -- attempt had read has changed; under TL2 that a transaction has drawn a number since the attempt began. The attempt was under
+    -- way then, unless it was over before the first look.
+    pub record WasWoken (most : ℕ) (old new : Caller L) : Type 0 where
       pub last : Caller L
+      pub count : ℕ
+      pub fewer : count < most
+      pub in_turn : LooksInTurn count old last
       pub stays : StaysLooking old last
       pub live : (is_under_way last ≡ true) ⊎ (last ≡ old)
+      pub once : LooksOnce holds last new
       pub changed : LooksChanged holds (clock old) last new
 
     -- no attempt was left to look, which only TL2 needs
-    pub record IsSpentWaiting (old new : Caller L) : Type 0 where
+    pub record IsSpentWaiting (most : ℕ) (old new : Caller L) : Type 0 where
       pub last : Caller L
+      pub count : ℕ
+      pub fewer : count < most
+      pub in_turn : LooksInTurn count old last
       pub stays : StaysLooking old last
       pub spent : LooksSpent last new
 
-    -- what follows looks, and how they leave the caller
+    -- what follows looks, so many at most, and how they leave the caller
     abbrev pub FollowsLooks : (looks : ℕ) → Caller L → Caller L → Result (Unit {0}) GaveUp → Type 0
-    FollowsLooks looks k n (Ok x) = WasWoken k n
-    FollowsLooks looks k n (Err Spent) = IsSpentWaiting k n
+    FollowsLooks looks k n (Ok x) = WasWoken looks k n
+    FollowsLooks looks k n (Err Spent) = IsSpentWaiting looks k n
     FollowsLooks looks k n (Err Idle) = WaitedInVain looks k n
     FollowsLooks looks k n (Err gave_up.Foreign) = ⊥
     FollowsLooks looks k n (Err gave_up.Memory) = ⊥
@@ -146,4 +168,5 @@ module _ {L : Type 0} where
     pub record FollowsAndLeaves (looks : ℕ) (k : Caller L) (why : Why) (n : Caller L) (next : Result (Unit {0}) GaveUp) : Type 0 where
       pub last : Caller L
       pub follows : Follows looks k why last next
-      pub leaves : Keeps last n
+      pub leaves : IsAbandoned holds last n
+      pub keeps : Keeps last n

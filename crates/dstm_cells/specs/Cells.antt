@@ -1,14 +1,16 @@
 -- The cells of a memory between runs, and the table of a run.
-use Rattle.std.specs.Prelude.{◌≡◌, ℕ, ◌+◌, ◌<◌, replicate, slice_index_or, List, [], ◌∷◌, ◌++◌, length}
+use Rattle.std.specs.Prelude.{◌≡◌, ◌⊎◌, ℕ, ◌+◌, ◌<◌, replicate, slice_index_or, List, [], ◌∷◌, ◌++◌, length}
 use Rattle.dstm_model.specs.declared.value.Val.{Val}
 use Rattle.dstm_cells.specs.declared.cell.Cell.{Cell}
+use Rattle.dstm_cells.specs.declared.error.Failed.{Failed}
+use Rattle.dstm_cells.specs.declared.error.Failed.TheVariants as failed
 use Rattle.dstm_tables.specs.Founders.{Enrols, founded}
 use Rattle.dstm_tables.specs.Tables.{law_there, objects_there, start_there}
 use Rattle.dstm_tables.specs.declared.founding.Founder.{Founder}
 use Rattle.dstm_tables.specs.declared.tables.Caller.{Caller}
 use Rattle.dstm_tables.specs.declared.tables.Table.{Table}
-use Rattle.dstm_attempts.specs.Attempts.{Settles}
-use Rattle.dstm_cells.specs.Attempts.{CouldNotRead}
+use Rattle.dstm_attempts.specs.Attempts.{Begins, Settles, TakesEffect, objects_of}
+use Rattle.dstm_cells.specs.Attempts.{CouldNotRead, ReadsInTurn, WereDisturbed}
 
 -- a cell was added to the values of those before, and holds this, by what two words stand for
 pub record Adds {T : Type 0} (found : Val → T) (old new : List Val) (cell : ℕ) (value : T) : Type 0 where
@@ -16,6 +18,10 @@ pub record Adds {T : Type 0} (found : Val → T) (old new : List Val) (cell : �
   pub is : found kept ≡ value
   pub last : new ≡ old ++ (kept ∷ [])
   pub number : cell ≡ length old
+
+-- why no cell was added: the memory has no room for it, or there was not enough memory
+abbrev pub WantsRoom : Failed → Type 0
+WantsRoom why = (why ≡ failed.Full) ⊎ (why ≡ failed.Memory)
 
 -- these cells have the numbers from this one on
 abbrev pub AreNamed : {T : Type 0} → (first : ℕ) → List (Cell T) → Type 0
@@ -50,12 +56,20 @@ abbrev pub AreValues : List Val → List Val → List Val → Type 0
 AreValues values before after = (before ≡ values) × (after ≡ values)
 
 module _ {L : Type 0} (holds : L → List Val → Type 0) where
-  -- THE VALUES OF ALL OBJECTS WERE READ: the caller has committed one transaction more, and in every run these are their
-  -- values at its place in the order of all transactions, before it and after it
+  -- THE VALUES OF ALL OBJECTS WERE READ: some attempts of the caller were disturbed, and one more began behind them, opened the
+  -- objects for reading in turn, and took effect; nothing else was done. So the caller has committed one transaction more, and in
+  -- every run these are the values of the objects at its place in the order of all transactions, before it and after it.
   pub record ReadsAll (k : Caller L) (values : List Val) : Type 0 where
+    pub attempts : ℕ
+    pub before : Caller L
+    pub disturbed : WereDisturbed holds attempts k before
+    pub began : Caller L
+    pub begins : Begins holds before began
+    pub last : Caller L
+    pub reads : ReadsInTurn holds (objects_of began) began last
     pub after : Caller L
-    pub number : ℕ
-    pub settles : Settles holds (AreValues values) k after number
+    pub takes : TakesEffect holds last after
+    pub settles : Settles holds (AreValues values) k after takes.number
 
   -- they were read by a new caller of a table
   pub record Takes (f g : Founder L) (values : List Val) : Type 0 where
@@ -69,3 +83,7 @@ module _ {L : Type 0} (holds : L → List Val → Type 0) where
     pub enrols : Enrols holds f g 0 caller
     pub after : Caller L
     pub unread : CouldNotRead holds 64 caller after
+
+  -- no caller of a table was given out, or one
+  abbrev pub GivesAtMostOne : (f g : Founder L) → Type 0
+  GivesAtMostOne f g = (g ≡ f) ⊎ ((caller : Caller L) × Enrols holds f g 0 caller)

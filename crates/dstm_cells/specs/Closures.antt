@@ -1,14 +1,14 @@
 -- What a transaction that a closure makes has done.
-use Rattle.std.specs.Prelude.{◌≡◌, ◌⊎◌, ℕ, zero, suc, List, Result, Ok, Err}
+use Rattle.std.specs.Prelude.{◌≡◌, ◌⊎◌, ℕ, zero, suc, true, List, Result, Ok, Err}
 use denote.Ref.{MutBor}
 use Rattle.std.specs.Fn.{CalledAtMut, FnOnceReturnsAtMut, Mut, Once}
 use Rattle.dstm_model.specs.declared.value.Val.{Val}
 use Rattle.dstm_tables.specs.declared.tables.Caller.{Caller}
-use Rattle.dstm_attempts.specs.Attempts.{Begins, IsLost, IsSpent, begun, renewed}
+use Rattle.dstm_attempts.specs.Attempts.{Begins, BeginsNone, IsLost, IsSpent, begun, renewed}
 use Rattle.dstm_cells.specs.declared.error.GaveUp.{GaveUp}
 use Rattle.dstm_cells.specs.declared.error.GaveUp.TheVariants.{Spent}
 use Rattle.dstm_cells.specs.declared.error.Stop.{Stop}
-use Rattle.dstm_cells.specs.Attempts.{FollowsAndLeaves, StaysFor}
+use Rattle.dstm_cells.specs.Attempts.{FollowsAndLeaves, IsLeft, StaysFor}
 use Rattle.dstm_cells.specs.UnderWay.{AddsNothing, IsUntouched, Keeps, LeavesLawful, TakesEffect}
 
 -- each call of the closure keeps how often its transaction looks where it retries
@@ -85,6 +85,12 @@ module _ {X L F R : Type 0} (caller : X → Caller L) where
           pub last : CalledAnew k f (Ok answer)
           pub takes : TakesEffect holds (caller last.on.ended) n
 
+        -- IT WAS LOOKED: the closure answered this on an attempt that was under way until it was left, and nothing took effect
+        pub record Viewed (k : Caller L) (f : F) (n : Caller L) (answer : R) : Type 0 where
+          pub last : CalledAnew k f (Ok answer)
+          pub left : IsLeft holds true (caller last.on.ended) n
+          pub nothing : AddsNothing k n
+
         -- THE CLOSURE STOPPED ITS ATTEMPT, and that is why there is no further one.
         pub record WasStopped (k : Caller L) (f : F) (n : Caller L) (why : GaveUp) : Type 0 where
           pub stop : Stop
@@ -92,12 +98,13 @@ module _ {X L F R : Type 0} (caller : X → Caller L) where
           pub follows : FollowsAndLeaves holds (patience last.on.ended) (caller last.on.ended) stop.why n (Err why)
           pub leaves : StaysFor stop.why (caller last.on.ended) n
 
-        -- NO ATTEMPT IS LEFT, or no locator: all that were made came to nothing
+        -- NO ATTEMPT IS LEFT, or no locator: all that were made came to nothing, and none was begun behind them
         pub record WasSpent (k : Caller L) (f : F) (n : Caller L) : Type 0 where
           pub before : Caller L
           pub reached : F
           pub tried : TriedInVain k f before reached
           pub none : begun n ≡ begun before
+          pub unbegun : (n ≡ before) ⊎ BeginsNone holds before n
           pub spent : IsSpent n
 
         -- WHY A TRANSACTION DID NOT TAKE EFFECT: the caller has no attempt left, or no locator; or the closure stopped its

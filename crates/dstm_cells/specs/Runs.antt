@@ -202,14 +202,19 @@ module _ {L F T : Type 0} {ghosts : Ghosts L} (holds : L → List Val → Type 0
       pub on : CalledOn table number end
 
     -- A RUN ON ONE TABLE, which was made of these values and works by this engine: the closure was called with each number on a
-    -- new part of it, what is told of these calls' ends is so, and the values after it are those that the objects of this table
-    -- had together at the place of a last transaction
-    pub record RanOn (threads : ℕ) (after : List Val) (told : (ℕ → End T) → Type 0) : Type 0 where
+    -- new part of it, and the values after it are those that the objects of this table had together at the place of a last
+    -- transaction
+    pub record Ran (threads : ℕ) (after : List Val) : Type 0 where
       pub table : Table L
       pub starts : Starts rule values table
       pub works : WorksBy engine table
       pub ends : ℕ → End T
       pub called : (number : ℕ) → number < threads → CalledOn table number (ends number)
-      pub tells : told ends
       pub left : Founder L
       pub takes : Takes holds (founded table) left after
+
+    -- and what is told of these calls' ends is so
+    pub record RanOn (threads : ℕ) (after : List Val) (told : (ℕ → End T) → Type 0) : Type 0 where
+      pub ran : Ran threads after
+      pub open ran use *
+      pub tells : told ends

@@ -8,7 +8,7 @@ use Rattle.dstm_attempts.specs.Attempts.{IsNotOpened, goes_on, is_under_way, obj
 use Rattle.dstm_cells.specs.declared.error.Why.{Why}
 use Rattle.dstm_cells.specs.declared.error.Why.TheVariants.{Again, Retry, Foreign, Memory}
 use Rattle.dstm_cells.specs.declared.error.Stop.{Stop}
-pub use Rattle.dstm_attempts.specs.Attempts.{AddsNothing, Exchanges, Finds, IsUntouched, Keeps, LeavesLawful, MayBegin, Puts, SetsNothing, TakesEffect, attempt, seen}
+pub use Rattle.dstm_attempts.specs.Attempts.{AddsNothing, Exchanges, Finds, IsUntouched, Keeps, LeavesLawful, MayBegin, Opens, Puts, SetsNothing, TakesEffect, attempt, seen}
 
 -- a stop for this reason
 abbrev pub stop_by : Why → Stop
@@ -34,12 +34,12 @@ module _ {L : Type 0} where
     StopsLook o old new Memory = ⊥
 
     -- WHY A CALL THAT SETS AN OBJECT STOPS, and what it leaves: it never retries, and wants memory only where it is to note
-    -- what it sets
+    -- what it sets; then the object is open, and nothing else was done
     abbrev pub StopsChange : (notes : Bool) → ℕ → Caller L → Caller L → Why → Type 0
     StopsChange notes o old new Again = IsNotOpened holds true o old new not_opened.Over
     StopsChange notes o old new Retry = ⊥
     StopsChange notes o old new Foreign = IsNotOpened holds true o old new not_opened.Foreign
-    StopsChange notes o old new Memory = (notes ≡ true) × SetsNothing holds old new
+    StopsChange notes o old new Memory = (notes ≡ true) × Opens holds true o old new × SetsNothing holds old new
 
     -- a cell was found to hold this, by what two words stand for, and nothing was set
     pub record Gets {T : Type 0} (found : Val → T) (old new : Caller L) (cell : ℕ) (value : T) : Type 0 where

@@ -1,7 +1,7 @@
 // Cells, and threads that change them.
 ghost use Rattle.std.specs.Prelude.{◌≡◌, ◌⊎◌, ◌↔◌, ◌+◌, ◌<◌, ◌≤◌, ℕ, [], length, slice_index_or, vec_capacity, All, Ok, Err, IfErr, IfOk, OnOk};
 ghost use Rattle.dstm_cells.specs.Attempts.{CouldNotRead};
-ghost use Rattle.dstm_cells.specs.Cells.{Adds, AddsAll, AreNamed, Founds, IsFor, LeavesUnread, ReadsAll, Takes};
+ghost use Rattle.dstm_cells.specs.Cells.{Adds, AddsAll, AreNamed, Founds, GivesAtMostOne, IsFor, LeavesUnread, ReadsAll, Takes, WantsRoom};
 ghost use Rattle.dstm_cells.specs.Runs.{AnswerEach, AreAt, AreNumbered, CalledFor, FailsByFirst, FailsFor, GivesOutSeats, HaveAnswered, HaveNew, IsFirst, IsFirstOf, IsWorked, LeavesBy, RanInTurn, RanOn, TakesBackSeats, WasCalled, WasUnread};
 ghost use Rattle.dstm_cells.specs.declared.error.Failed.TheVariants as failed;
 ghost use Rattle.dstm_model.specs.Map.{state_after, value_at};
@@ -85,8 +85,7 @@ impl<L: Law + Copy> Memory<L> {
         ensures engine { self.new.engine ≡ self.old.engine }
         ensures law { self.new.law ≡ self.old.law }
         ensures full { result ≡ Err failed.Full ↔ length self.old.values.items ≡ 524288 }
-        ensures fails { IfErr result (λ why. (self.new.values.items ≡ self.old.values.items)
-            × ((why ≡ failed.Full) ⊎ (why ≡ failed.Memory))) }
+        ensures fails { IfErr result (λ why. (self.new.values.items ≡ self.old.values.items) × WantsRoom why) }
         ensures made { IfOk result (λ cell. Adds T.found self.old.values.items self.new.values.items cell.object value) }
     {
         if self.values.len() >= MOST_CELLS as usize {
@@ -105,8 +104,7 @@ impl<L: Law + Copy> Memory<L> {
         ensures engine { self.new.engine ≡ self.old.engine }
         ensures law { self.new.law ≡ self.old.law }
         ensures full { result ≡ Err failed.Full ↔ 524288 < length self.old.values.items + count }
-        ensures fails { IfErr result (λ why. (self.new.values.items ≡ self.old.values.items)
-            × ((why ≡ failed.Full) ⊎ (why ≡ failed.Memory))) }
+        ensures fails { IfErr result (λ why. (self.new.values.items ≡ self.old.values.items) × WantsRoom why) }
         ensures count { IfOk result (λ cells. length cells.items ≡ count) }
         ensures made { IfOk result (λ cells. AddsAll T.found self.old.values.items self.new.values.items cells.items value) }
     {
@@ -163,6 +161,7 @@ impl<L: Law + Copy> Memory<L> {
         ensures looks { IfOk result (λ me. me.tx.looks ≡ 1048576) }
         ensures full { result ≡ Err failed.Threads ↔ made_of founder.old ≡ callers_there table.now }
         ensures fails { IfErr result (λ why. (why ≡ failed.Threads) ⊎ (why ≡ failed.Memory)) }
+        ensures same { IfErr result (λ _. founder.new ≡ founder.old) }
     {
         match founder.caller(self.alloc, table, seed) {
             Ok(caller) => Ok(Part {
@@ -189,6 +188,7 @@ impl<L: Law + Copy> Memory<L> {
         ensures fails { IfErr result (λ why. (self.new ≡ self.old)
             × ((why ≡ failed.Threads) ⊎ (why ≡ failed.Memory) ⊎ (why ≡ failed.Unread))) }
         ensures unread { result ≡ Err failed.Unread → LeavesUnread L.holds founder.old founder.new }
+        ensures gives { GivesAtMostOne L.holds founder.old founder.new }
     {
         let mut last = self.part(table, founder, 0)?;
         self.take_by(&mut last)

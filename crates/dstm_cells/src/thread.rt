@@ -1,8 +1,9 @@
 // A thread's part in a run.
-ghost use Rattle.std.specs.Prelude.{◌≡◌, IfErr, IfOk};
-ghost use Rattle.dstm_attempts.specs.Attempts.{IsQuit};
-ghost use Rattle.dstm_cells.specs.Closures.{GaveUpFor, IsLawful, KeepsEach, KeepsPatience, TookEffect};
-ghost use Rattle.dstm_cells.specs.UnderWay.{AddsNothing};
+ghost use Rattle.std.specs.Prelude.{◌≡◌, true, false, IfErr, IfOk};
+ghost use Rattle.dstm_attempts.specs.Attempts.{IsLost, IsQuit};
+ghost use Rattle.dstm_cells.specs.Attempts.{IsLeft};
+ghost use Rattle.dstm_cells.specs.Closures.{GaveUpFor, IsLawful, KeepsEach, KeepsPatience, TookEffect, Viewed};
+ghost use Rattle.dstm_cells.specs.UnderWay.{AddsNothing, Keeps, LeavesLawful, TakesEffect};
 ghost use Rattle.dstm_tables.specs.Callers.{home_of};
 
 use crate::error::{GaveUp, Stop};
@@ -41,6 +42,46 @@ impl<X: Transaction> Part<X> {
         ensures quit { IsQuit (X.caller self.old.tx) → IsQuit (X.caller self.new.tx) }
         ensures patience { KeepsPatience X.patience F.FnMut → X.patience self.new.tx ≡ X.patience self.old.tx }
     {
+        self.make(f, true)
+    }
+
+    /// Looks at the memory: calls the closure, and again, until an attempt was under way to its end. What it was told stood
+    /// together at one moment. Nothing that it has set takes effect, and no number is drawn, so that views of several threads do
+    /// not meet. The answer is that of the last call.
+    pub fn view<R: Drop, F>(&mut self, f: F) -> Result<R, GaveUp>
+    where
+        F: FnMut(&mut X) -> Result<R, Stop>,
+        requires callable { F.IsAlwaysCallable f }
+        ensures viewed { KeepsEach X.caller F.FnMut →
+            IfOk result (Viewed X.caller F.FnMut X.Rule.holds X.patience (X.caller self.old.tx) f (X.caller self.new.tx)) }
+        ensures nothing { KeepsEach X.caller F.FnMut → AddsNothing (X.caller self.old.tx) (X.caller self.new.tx) }
+        ensures why { KeepsEach X.caller F.FnMut →
+            IfErr result (GaveUpFor X.caller F.FnMut X.Rule.holds X.patience (X.caller self.old.tx) f (X.caller self.new.tx)) }
+        ensures quit { IsQuit (X.caller self.old.tx) → IsQuit (X.caller self.new.tx) }
+        ensures patience { KeepsPatience X.patience F.FnMut → X.patience self.new.tx ≡ X.patience self.old.tx }
+    {
+        self.make(f, false)
+    }
+
+    // Calls the closure on attempts, one after the other, until one has ended well, by its commit or by being left.
+    #[inline(always)]
+    fn make<R: Drop, F>(&mut self, f: F, commits: bool) -> Result<R, GaveUp>
+    where
+        F: FnMut(&mut X) -> Result<R, Stop>,
+        requires callable { F.IsAlwaysCallable f }
+        requires lawful { commits ≡ true → IsLawful X.caller F.FnMut X.Rule.holds }
+        ensures took { commits ≡ true → KeepsEach X.caller F.FnMut →
+            IfOk result (TookEffect X.caller F.FnMut X.Rule.holds X.patience (X.caller self.old.tx) f (X.caller self.new.tx)) }
+        ensures viewed { commits ≡ false → KeepsEach X.caller F.FnMut →
+            IfOk result (Viewed X.caller F.FnMut X.Rule.holds X.patience (X.caller self.old.tx) f (X.caller self.new.tx)) }
+        ensures nothing { KeepsEach X.caller F.FnMut →
+            IfErr result (λ _. AddsNothing (X.caller self.old.tx) (X.caller self.new.tx)) }
+        ensures why { KeepsEach X.caller F.FnMut →
+            IfErr result (GaveUpFor X.caller F.FnMut X.Rule.holds X.patience (X.caller self.old.tx) f (X.caller self.new.tx)) }
+        ensures home { KeepsEach X.caller F.FnMut → home_of (X.caller self.new.tx) ≡ home_of (X.caller self.old.tx) }
+        ensures quit { IsQuit (X.caller self.old.tx) → IsQuit (X.caller self.new.tx) }
+        ensures patience { KeepsPatience X.patience F.FnMut → X.patience self.new.tx ≡ X.patience self.old.tx }
+    {
         let mut f = f;
         self.tx.renew();
         let mut turns: u32 = 1;
@@ -48,7 +89,7 @@ impl<X: Transaction> Part<X> {
             self.tx.begin()?;
             match f(&mut self.tx) {
                 Ok(answer) => {
-                    if self.tx.commit() {
+                    if end(&mut self.tx, commits) {
                         return Ok(answer);
                     }
                 }
@@ -68,6 +109,21 @@ impl<X: Transaction> Part<X> {
     {
         self.tx.set_looks(looks);
     }
+}
+
+// Ends the attempt, by its commit or by leaving it, and tells whether it ended well.
+#[inline(always)]
+fn end<X: Transaction>(tx: &mut X, commits: bool) -> bool
+    requires lawful { commits ≡ true → LeavesLawful X.Rule.holds (X.caller tx.old) }
+    ensures takes { commits ≡ true → result ≡ true → TakesEffect X.Rule.holds (X.caller tx.old) (X.caller tx.new) }
+    ensures leaves { commits ≡ false → IsLeft X.Rule.holds result (X.caller tx.old) (X.caller tx.new) }
+    ensures keeps { result ≡ false → Keeps (X.caller tx.old) (X.caller tx.new) }
+    ensures lost { result ≡ false → IsLost X.Rule.holds (X.caller tx.old) (X.caller tx.new) }
+    ensures home { home_of (X.caller tx.new) ≡ home_of (X.caller tx.old) }
+    ensures quit { IsQuit (X.caller tx.new) }
+    ensures patience { X.patience tx.new ≡ X.patience tx.old }
+{
+    if commits { tx.commit() } else { tx.finish() }
 }
 
 // Lets other threads run, so many times.

@@ -1,9 +1,9 @@
 // What makes the transactions of a thread, one after the other.
 ghost use Rattle.std.specs.Prelude.{◌++◌, ◌≡◌, ◌<◌, ℕ, List, [], true, false, length, IfErr, OnOk};
 ghost use Rattle.dstm_tables.specs.declared.tables.Caller.{Caller};
-ghost use Rattle.dstm_attempts.specs.Attempts.{AddsNothing, Begins, IsLost, IsQuit, IsSpent, Keeps, LeavesLawful, TakesEffect, attempts_of, begun, renewed};
-ghost use Rattle.dstm_cells.specs.Alternatives.{Noting, StopsUndoing, Undoes, noting, settings};
-ghost use Rattle.dstm_cells.specs.Attempts.{FollowsAndLeaves, StaysFor};
+ghost use Rattle.dstm_attempts.specs.Attempts.{AddsNothing, Begins, BeginsNone, IsLost, IsQuit, IsSpent, Keeps, LeavesLawful, TakesEffect, attempts_of, begun, renewed};
+ghost use Rattle.dstm_cells.specs.Alternatives.{HasSetBack, Noting, StopsUndoing, Undoes, noting, settings};
+ghost use Rattle.dstm_cells.specs.Attempts.{FollowsAndLeaves, IsLeft, StaysFor};
 ghost use Rattle.dstm_cells.specs.declared.error.GaveUp.TheVariants.{Spent};
 ghost use Rattle.dstm_cells.specs.declared.under_way.Undo.{Undo};
 
@@ -37,6 +37,7 @@ pub trait Transaction: Drop {
     /// Begins an attempt.
     fn begin(&mut self) -> Result<(), GaveUp>
         ensures begins { OnOk result (Begins Self.Rule.holds (caller self.old) (caller self.new)) }
+        ensures unbegun { IfErr result (λ _. BeginsNone Self.Rule.holds (caller self.old) (caller self.new)) }
         ensures spent { IfErr result (λ why. (why ≡ Spent) × IsSpent (caller self.new)) }
         ensures none { IfErr result (λ _. begun (caller self.new) ≡ begun (caller self.old)) }
         ensures quit { IfErr result (λ _. IsQuit (caller self.new)) }
@@ -49,6 +50,12 @@ pub trait Transaction: Drop {
         requires lawful { LeavesLawful Self.Rule.holds (caller self.old) }
         ensures takes { result ≡ true → TakesEffect Self.Rule.holds (caller self.old) (caller self.new) }
         ensures keeps { result ≡ false → Keeps (caller self.old) (caller self.new) }
+        ensures lost { result ≡ false → IsLost Self.Rule.holds (caller self.old) (caller self.new) }
+        ensures patience { patience self.new ≡ patience self.old };
+
+    /// Leaves the attempt, so that nothing of it takes effect, and tells whether it was under way until then.
+    fn finish(&mut self) -> bool
+        ensures leaves { IsLeft Self.Rule.holds result (caller self.old) (caller self.new) }
         ensures lost { result ≡ false → IsLost Self.Rule.holds (caller self.old) (caller self.new) }
         ensures patience { patience self.new ≡ patience self.old };
 
@@ -79,6 +86,8 @@ pub trait Transaction: Drop {
         ensures notes { settings (noting self.new) ≡ settings (noting self.old) }
         ensures undone { OnOk result ((first added : List Undo) → (noting self.old).undos ≡ first ++ added → length first ≡ kept
             → Undoes Self.Rule.holds first added [] (noting self.old) (noting self.new)) }
+        ensures back { OnOk result ((first added : List Undo) → (noting self.old).undos ≡ first ++ added → length first ≡ kept
+            → HasSetBack Self.Rule.holds (noting self.old).undos first (noting self.old).caller (noting self.new).caller) }
         ensures left { IfErr result (λ _. (first added : List Undo) → (noting self.old).undos ≡ first ++ added
             → length first ≡ kept
             → (left : List Undo) × Undoes Self.Rule.holds first added left (noting self.old) (noting self.new)) }
@@ -116,6 +125,15 @@ impl<'a, L: Law> Transaction for Tx<'a, L> {
     #[inline(always)]
     fn commit(&mut self) -> bool {
         self.attempts.commit(self.table)
+    }
+
+    #[inline(always)]
+    fn finish(&mut self) -> bool {
+        let is_under_way = self.attempts.is_under_way();
+        if is_under_way {
+            self.attempts.abandon(self.table);
+        }
+        is_under_way
     }
 
     fn leave(&mut self, stop: Stop) -> Result<(), GaveUp> {

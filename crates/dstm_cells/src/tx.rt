@@ -2,7 +2,7 @@
 ghost use Rattle.std.specs.Prelude.{◌++◌, ◌⊎◌, ◌≡◌, List, [], ◌∷◌, length, true, false, IfErr, IfOk, Ok, OnOk, Err, if◌then◌else◌};
 ghost use Rattle.dstm_tables.specs.Callers.{home_of, law_of};
 ghost use Rattle.dstm_attempts.specs.Attempts.{Exchanges, Finds, IsClosed, IsUntouched, Keeps, MayBegin, Opens, StoodTogether, objects_of};
-ghost use Rattle.dstm_cells.specs.Alternatives.{Notes, NotesOnce, OrElse, noting, settings};
+ghost use Rattle.dstm_cells.specs.Alternatives.{Notes, NotesOnce, OpensAndSets, OrElse, noting, settings};
 ghost use Rattle.dstm_cells.specs.Attempts.{CouldNotRead, Follows, FollowsLooks, FollowsRetry, ReadsInTurn, StaysFor, StaysLooking, StaysWaiting, StopsReading};
 ghost use Rattle.dstm_cells.specs.Cells.{ReadsAll};
 ghost use Rattle.dstm_cells.specs.Closures.{KeepsOnce};
@@ -49,6 +49,7 @@ impl<'a, L: Law> Tx<'a, L> {
         ensures keeps { Keeps self.old.attempts.caller self.new.attempts.caller }
         ensures stops { IfErr result (λ stop. StopsLook L.holds cell.object self.old.attempts.caller self.new.attempts.caller stop.why) }
         ensures notes { Notes L.holds (noting self.old) (noting self.new) }
+        ensures undos { self.new.undos.items ≡ self.old.undos.items }
         ensures refuses { Refuses self.old.attempts.caller cell.object result }
         ensures gets { IfOk result (Gets L.holds T.found self.old.attempts.caller self.new.attempts.caller cell.object) }
         ensures once { OnOk result (Opens L.holds false cell.object self.old.attempts.caller self.new.attempts.caller) }
@@ -64,6 +65,8 @@ impl<'a, L: Law> Tx<'a, L> {
         ensures keeps { Keeps self.old.attempts.caller self.new.attempts.caller }
         ensures stops { IfErr result (λ stop. StopsChange L.holds self.old.notes cell.object self.old.attempts.caller self.new.attempts.caller stop.why) }
         ensures notes { Notes L.holds (noting self.old) (noting self.new) }
+        ensures unnoted { self.old.notes ≡ false → self.new.undos.items ≡ self.old.undos.items }
+        ensures undos { IfErr result (λ _. self.new.undos.items ≡ self.old.undos.items) }
         ensures refuses { Refuses self.old.attempts.caller cell.object result }
         ensures puts { OnOk result ((had : T) × Changes L.holds T.found self.old.attempts.caller self.new.attempts.caller cell.object had value) }
         ensures once { OnOk result (Opens L.holds true cell.object self.old.attempts.caller self.new.attempts.caller) }
@@ -79,6 +82,8 @@ impl<'a, L: Law> Tx<'a, L> {
         ensures keeps { Keeps self.old.attempts.caller self.new.attempts.caller }
         ensures stops { IfErr result (λ stop. StopsChange L.holds self.old.notes cell.object self.old.attempts.caller self.new.attempts.caller stop.why) }
         ensures notes { Notes L.holds (noting self.old) (noting self.new) }
+        ensures unnoted { self.old.notes ≡ false → self.new.undos.items ≡ self.old.undos.items }
+        ensures undos { IfErr result (λ _. self.new.undos.items ≡ self.old.undos.items) }
         ensures refuses { Refuses self.old.attempts.caller cell.object result }
         ensures puts { IfOk result (λ had. Changes L.holds T.found self.old.attempts.caller self.new.attempts.caller cell.object had value) }
         ensures once { OnOk result (Opens L.holds true cell.object self.old.attempts.caller self.new.attempts.caller) }
@@ -95,6 +100,8 @@ impl<'a, L: Law> Tx<'a, L> {
         ensures keeps { Keeps self.old.attempts.caller self.new.attempts.caller }
         ensures stops { IfErr result (λ stop. StopsChange L.holds self.old.notes cell.object self.old.attempts.caller self.new.attempts.caller stop.why) }
         ensures notes { Notes L.holds (noting self.old) (noting self.new) }
+        ensures unnoted { self.old.notes ≡ false → self.new.undos.items ≡ self.old.undos.items }
+        ensures undos { IfErr result (λ _. self.new.undos.items ≡ self.old.undos.items) }
         ensures refuses { Refuses self.old.attempts.caller cell.object result }
         ensures puts { IfOk result (λ had.
             (value : T) × F.post f had value × Changes L.holds T.found self.old.attempts.caller self.new.attempts.caller cell.object had value) }
@@ -127,6 +134,7 @@ impl<'a, L: Law> Tx<'a, L> {
         ensures keeps { Keeps self.old.attempts.caller self.new.attempts.caller }
         ensures stops { IfErr result (λ stop. StopsLook L.holds object self.old.attempts.caller self.new.attempts.caller stop.why) }
         ensures notes { Notes L.holds (noting self.old) (noting self.new) }
+        ensures undos { self.new.undos.items ≡ self.old.undos.items }
         ensures refuses { Refuses self.old.attempts.caller object result }
         ensures finds { IfOk result (Finds L.holds self.old.attempts.caller self.new.attempts.caller object) }
         ensures once { OnOk result (Opens L.holds false object self.old.attempts.caller self.new.attempts.caller) }
@@ -143,6 +151,8 @@ impl<'a, L: Law> Tx<'a, L> {
         ensures keeps { Keeps self.old.attempts.caller self.new.attempts.caller }
         ensures stops { IfErr result (λ stop. StopsChange L.holds self.old.notes object self.old.attempts.caller self.new.attempts.caller stop.why) }
         ensures notes { Notes L.holds (noting self.old) (noting self.new) }
+        ensures unnoted { self.old.notes ≡ false → self.new.undos.items ≡ self.old.undos.items }
+        ensures undos { IfErr result (λ _. self.new.undos.items ≡ self.old.undos.items) }
         ensures refuses { Refuses self.old.attempts.caller object result }
         ensures changes { IfOk result (λ had.
             (value : Val) × F.post f had value × Exchanges L.holds self.old.attempts.caller self.new.attempts.caller object had value) }
@@ -164,6 +174,7 @@ impl<'a, L: Law> Tx<'a, L> {
         ensures notes { settings (noting self.new) ≡ settings (noting self.old) }
         ensures refuses { Refuses self.old.attempts.caller object result }
         ensures puts { OnOk result ((had : Val) × Exchanges L.holds self.old.attempts.caller self.new.attempts.caller object had value) }
+        ensures once { OnOk result (OpensAndSets L.holds object self.old.attempts.caller self.new.attempts.caller) }
     {
         let _old = self.attempts.write(self.table, object)?;
         self.attempts.set(self.table, object, value);
@@ -304,6 +315,7 @@ pub fn retry<R>() -> Result<R, Stop>
 #[inline]
 fn note_undo(undos: &mut Vec<Undo>, notes: bool, undo: Undo) -> Result<(), AllocFailed<Undo>>
     ensures noted { OnOk result (notes ≡ true → undos.new.items ≡ undos.old.items ++ (undo ∷ [])) }
+    ensures unnoted { OnOk result (notes ≡ false → undos.new.items ≡ undos.old.items) }
     ensures failed { IfErr result (λ _. (notes ≡ true) × (undos.new.items ≡ undos.old.items)) }
 {
     if !notes {

@@ -8,7 +8,7 @@ use Rattle.dstm_attempts.proofs.dstm.let_go.Goals as goal
 pub returns-then-read_all-clause-same : goal.returns-then-read_all-clause-same
 returns-then-read_all-clause-same g c h =
     lets_go g.L.Law.holds c.args.caller.now c.begin.new.self c.read_all.new.caller c.deref.result.now c.in-Ok.ensures.begins
-    c.read_all.ensures.keeps (c.read_all.ensures.same c.if-read_all.true) (c.read_all.ensures.unmarked c.if-read_all.true)
+    c.read_all.ensures.keeps (c.read_all.ensures.reads c.if-read_all.true) (c.read_all.ensures.same c.if-read_all.true) (c.read_all.ensures.unmarked c.if-read_all.true)
     (c.deref.ensures.value ∙ c.in_ok-copy_held.ensures)
 
 pub returns-then-read_all-clause-begun : goal.returns-then-read_all-clause-begun
@@ -21,7 +21,7 @@ pub returns-clause-changed : goal.returns-clause-changed
 returns-clause-changed g c h =
     finds_another g.L.Law.holds c.args.caller.now c.begin.new.self c.read_all.new.caller c.abandon.new.caller
     c.deref.result.now c.in-Ok.ensures.begins c.read_all.ensures.keeps (c.read_all.ensures.other c.if-read_all.false)
-    (c.deref.ensures.value ∙ c.in_ok-copy_held.ensures) c.abandon.ensures.keeps c.abandon.ensures.quit
+    (c.deref.ensures.value ∙ c.in_ok-copy_held.ensures) c.abandon.ensures.keeps c.abandon.ensures.quit c.abandon.ensures.leaves
 
 pub returns-clause-begun : goal.returns-clause-begun
 returns-clause-begun g c =

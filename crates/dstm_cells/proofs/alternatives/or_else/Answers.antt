@@ -4,9 +4,9 @@ use Rattle.dstm_cells.specs.Alternatives.{Noting, StopsUndoing}
 use Rattle.dstm_cells.specs.UnderWay.{attempt, stop_by}
 use Rattle.dstm_cells.specs.declared.error.Stop.{Stop}
 use Rattle.dstm_cells.specs.declared.error.Why.TheVariants.{Retry}
-use Rattle.dstm_cells.proofs.Alternating.{First, called, leaves, left_notes, stays_read, stopped, undone}
+use Rattle.dstm_cells.proofs.Alternating.{First, called, leaves, left_notes, set_back, stays_read, stopped, undone}
 use Rattle.dstm_cells.proofs.Calling.{err_is, once_at, once_kept}
-use Rattle.dstm_cells.proofs.Undoing.{notes_twice, undone_notes}
+use Rattle.dstm_cells.proofs.Undoing.{undone_notes}
 use Rattle.dstm_cells.proofs.alternatives.or_else.Given.{Over}
 use Rattle.dstm_cells.proofs.alternatives.or_else.Goals.{After-has_retried}
 use Rattle.dstm_cells.proofs.alternatives.or_else.Goals as goal
@@ -90,15 +90,14 @@ returns-clause-keeps g c first second =
     ∙ ap (λ (k : Noting _). attempt k.caller) c.note-notes.ensures.notes
 
 pub returns-clause-notes : goal.returns-clause-notes
-returns-clause-notes g c first second =
+returns-clause-notes g c first second k noted =
     let noting = g.X.Transaction.noting in
     let it = first_called g (goal.at.returns-clause-notes g c).After-has_retried (Err (stop_by Retry)) (c.has_retried.ensures.retries c.if-not-has_retried.false) in
     let back = undone noting g.F.FnOnce c.args.first g.X.Rule.Law.holds c.args.tx.now c.note-notes.new.self c.first-answer.new.arg2
     c.note-noted.new.self (Err (stop_by Retry)) it first
     c.undo_to.new.self c.noted-kept.result c.noted-kept.ensures c.undo_to.ensures.keeps c.undo_to.ensures.notes c.in_ok-undo_to.ensures.undone in
-    notes_twice g.X.Rule.Law.holds (noting c.args.tx.now) (noting c.undo_to.new.self) (noting c.second.new.arg2)
-    (undone_notes g.X.Rule.Law.holds _ _ back)
-    (second _ _ _ (once_at g.G.FnOnce c.args.second _ _ _ _ c.second.ensures refl))
+    second _ _ _ (once_at g.G.FnOnce c.args.second _ _ _ _ c.second.ensures refl) k
+    (undone_notes g.X.Rule.Law.holds _ _ back k noted)
 
 pub returns-clause-does : goal.returns-clause-does
 returns-clause-does g c first =
@@ -112,6 +111,9 @@ returns-clause-does g c first =
       undone = undone noting g.F.FnOnce c.args.first g.X.Rule.Law.holds c.args.tx.now c.note-notes.new.self c.first-answer.new.arg2
           c.note-noted.new.self (Err (stop_by Retry)) it first
           c.undo_to.new.self c.noted-kept.result c.noted-kept.ensures c.undo_to.ensures.keeps c.undo_to.ensures.notes c.in_ok-undo_to.ensures.undone;
+      back = set_back noting g.F.FnOnce c.args.first g.X.Rule.Law.holds c.args.tx.now c.note-notes.new.self c.first-answer.new.arg2
+          c.note-noted.new.self (Err (stop_by Retry)) it first
+          c.undo_to.new.self c.noted-kept.result c.noted-kept.ensures c.undo_to.ensures.keeps c.undo_to.ensures.notes c.in_ok-undo_to.ensures.back;
       stays = stays_read noting g.F.FnOnce c.args.first g.X.Rule.Law.holds c.args.tx.now c.note-notes.new.self c.first-answer.new.arg2
           c.note-noted.new.self (Err (stop_by Retry)) it first
           c.undo_to.new.self c.noted-kept.result c.noted-kept.ensures c.undo_to.ensures.keeps c.undo_to.ensures.notes c.in_ok-undo_to.ensures.undone;

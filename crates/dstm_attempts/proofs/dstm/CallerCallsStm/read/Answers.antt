@@ -1,4 +1,6 @@
 use Rattle.std.proofs.Common.{◌∙◌, ◌<◌, ap, false, subst, sym}
+use Rattle.dstm_mem.proofs.InTheEnd.{in_the_end}
+use Rattle.dstm_engine.specs.Attempts.{Sighted}
 use Rattle.dstm_engine.specs.Callers.{Called, shape_of}
 use Rattle.dstm_tables.specs.declared.tables.Caller.TheVariants.{Dstm}
 use Rattle.dstm_attempts.specs.declared.error.NotOpened.TheVariants.{Over}
@@ -34,3 +36,8 @@ returns-in-Ok-clause-unmarked g c =
     resumed OpensNoMore _ c.resume-tx.result.caller.now c.open_read.new.self.caller.now _ _ _ (assumption c)
     (sym (c.open_read.ensures.reference ∙ c.resume-tx.ensures.same)) c.resume-tx.ensures.attempt
     (record { unmarked = c.in-Ok.ensures.unmarked })
+
+pub returns-in-Ok-clause-together : goal.returns-in-Ok-clause-together
+returns-in-Ok-clause-together g c =
+    in_the_end Sighted _ _ _ c.open_read.new.self.caller.now (assumption c)
+    (sym (c.open_read.ensures.reference ∙ c.resume-tx.ensures.same)) c.in-Ok.ensures.sight

@@ -1,4 +1,6 @@
 use Rattle.std.proofs.Common.{◌∙◌, ◌<◌, ap, true, subst, sym}
+use Rattle.dstm_mem.proofs.InTheEnd.{in_the_end}
+use Rattle.dstm_engine.specs.Attempts.{Sighted}
 use Rattle.dstm_engine.specs.Callers.{Called, shape_of}
 use Rattle.dstm_tables.specs.declared.tables.Caller.TheVariants.{Dstm}
 use Rattle.dstm_attempts.specs.declared.error.NotOpened.TheVariants.{Over}
@@ -27,3 +29,8 @@ returns-in-Err-clause-stops g c =
     (sym (c.open_write.ensures.reference ∙ c.resume-tx.ensures.same)) c.resume-tx.ensures.attempt
     (not_opened_left holds true c.args.object k new c.in-Err.field-0 c.in-Err.ensures.leaves
     c.in-Err.ensures.live (ap (λ (n : Called _). n.set) c.open_write.ensures.kept) c.open_write.ensures.narrows)
+
+pub returns-in-Ok-clause-together : goal.returns-in-Ok-clause-together
+returns-in-Ok-clause-together g c =
+    in_the_end Sighted _ _ _ c.open_write.new.self.caller.now (assumption c)
+    (sym (c.open_write.ensures.reference ∙ c.resume-tx.ensures.same)) c.in-Ok.ensures.sight

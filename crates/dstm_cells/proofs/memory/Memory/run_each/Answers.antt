@@ -80,16 +80,18 @@ returns-clause-left g c =
     let ends = after.in_ok-ends.ends.items in
     each_leaves ends _ _ c.all_answers.result c.all_answers.ensures.first
     (record {
-      table = c.in_ok-table.table;
-      starts = c.in_ok-table.ensures.founds.starts;
-      works = c.in_ok-table.ensures.engine;
-      ends = λ number. slice_index_or ends number (Err Spent);
-      called = called_on g after (Err Spent);
+      ran = record {
+        table = c.in_ok-table.table;
+        starts = c.in_ok-table.ensures.founds.starts;
+        works = c.in_ok-table.ensures.engine;
+        ends = λ number. slice_index_or ends number (Err Spent);
+        called = called_on g after (Err Spent);
+        left = c.part.new.founder;
+        takes = last_takes TheLaw.holds-value.it c.part.new.founder c.in_ok-reader.reader.tx.attempts.caller
+            c.in_ok-table.ensures.founds c.in_ok-reader.ensures.enrols c.in_ok-take_by.ensures.reads;
+      };
       tells = tells_each ends c.args.threads (as_many g after) (Err Spent) c.all_answers.result (λ answers. answers.items)
           c.all_answers.ensures.well c.all_answers.ensures.first;
-      left = c.part.new.founder;
-      takes = last_takes TheLaw.holds-value.it c.part.new.founder c.in_ok-reader.reader.tx.attempts.caller
-          c.in_ok-table.ensures.founds c.in_ok-reader.ensures.enrols c.in_ok-take_by.ensures.reads;
     })
 
 pub returns-in_err-take_by-clause-left : goal.returns-in_err-take_by-clause-left

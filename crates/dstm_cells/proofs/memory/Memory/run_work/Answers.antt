@@ -1,7 +1,8 @@
 use Rattle.std.proofs.Common.{◌≡◌, ◌∙◌, ◌+◌, ◌<◌, ℕ, Err, List, Ok, ap, arith, length, refl, rules, subst, sym}
-use Rattle.std.specs.Prelude.{◌⊎◌, ◌↔◌, IfErr, OnOk, Result, slice_index_or}
+use Rattle.std.specs.Prelude.{◌⊎◌, ◌↔◌, All, IfErr, OnOk, Result, slice_index_or}
 use denote.Param.Send.{sendable}
 use Rattle.std.proofs.Crossing.{crosses}
+use Rattle.std.proofs.lemmas.Result.{on_ok_weaker}
 use Rattle.dstm_tables.specs.Callers.{home_of}
 use Rattle.dstm_tables.specs.Founders.{founded, made_of}
 use Rattle.dstm_tables.specs.Tables.{callers_there}
@@ -161,3 +162,9 @@ returns-in_err-take-clause-fails g c =
     (cause g after c.retire_all.new.founder taken why c.take.result c.in_err-take.was c.take.ensures.full c.in_err-take.ensures.fails.1)
     (λ unread.
     in_turn g after c.retire_all.new.founder taken (LeavesUnread g.L.Law.holds) c.take.new.founder (c.in_err-take.ensures.unread (ap Err unread))))
+
+pub returns-clause-threads : goal.returns-clause-threads
+returns-clause-threads g c =
+    on_ok_weaker c.how_all_ended-ended.result
+    (λ (well : All (λ (seat : Seat g.row.L.Denot g.L.Law). seat.ended ≡ Ok tt) c.deref.result.now). c.in_ok-table.ensures.threads)
+    c.how_all_ended-ended.ensures.well

@@ -10,5 +10,6 @@ pub returns-clause-follows : goal.returns-clause-follows
 returns-clause-follows g c = record {
   last = c.follow-next.new.self.attempts.caller;
   follows = c.follow-next.ensures.follows;
-  leaves = c.abandon.ensures.keeps;
+  leaves = c.abandon.ensures.leaves;
+  keeps = c.abandon.ensures.keeps;
 }

@@ -1,11 +1,11 @@
-use Rattle.std.proofs.Common.{◌-◌, ◌∙◌, List, ap, arith, length, refl, rules, subst, sym, take}
+use Rattle.std.proofs.Common.{◌-◌, ◌∙◌, List, ap, arith, length, length-append, refl, rules, subst, sym, take}
 use Rattle.std.specs.Prelude.{All, Contains}
 use Rattle.std.proofs.lemmas.List.{length-take-le}
 use Rattle.std.proofs.lemmas.List.Elements.{All-contains_itself, All-get_or, All-take}
-use Rattle.dstm_cells.specs.Alternatives.{StopsUndoing, noting}
+use Rattle.dstm_cells.specs.Alternatives.{HasSetBack, StopsUndoing, noting}
 use Rattle.dstm_cells.specs.declared.under_way.Undo.{Undo}
 use Rattle.dstm_cells.proofs.Calling.{if_err, is_err}
-use Rattle.dstm_cells.proofs.Undoing.{undoes_step}
+use Rattle.dstm_cells.proofs.Undoing.{back_to, last_noted, none_back, one_back, undoes_step}
 use Rattle.dstm_cells.proofs.transaction.TxTransaction.undo_to.Goals as goal
 
 pub returns-in_err-put-clause-stops : goal.returns-in_err-put-clause-stops
@@ -20,6 +20,11 @@ returns-in_err-put-clause-stops g c =
           (omega (arith, c.len-last.ensures, c.len.ensures, c.loop-self-test.true)) c.loop-self.invariant.among);
       last = c.loop-self.self.attempts.caller;
       keeps = c.loop-self.invariant.keeps;
+      before = take (c.len-last.result - 1) c.loop-self.self.undos.items;
+      so_far = subst (λ (xs : List Undo). HasSetBack g.L.Law.holds c.args.self.now.undos.items xs c.args.self.now.attempts.caller
+          c.loop-self.self.attempts.caller)
+          (last_noted g.L.Law.holds c.loop-self.self.undos.items (c.len-last.result - 1) c.index-undo.result.now
+          (omega (arith, c.len-last.ensures, c.len.ensures, c.loop-self-test.true)) c.index-undo.ensures) c.loop-self.invariant.back;
       stops = c.in_err-put.ensures.stops;
     })
 
@@ -39,6 +44,7 @@ loop-self-init g c = record {
   keeps = refl;
   notes = refl;
   fewer = omega arith;
+  back = none_back g.L.Law.holds c.args.self.now.undos.items c.args.self.now.attempts.caller;
   among = All-contains_itself c.args.self.now.undos.items;
   undoes = λ first added was size. (added, record { is = was; narrows = λ map may. may; back = λ map may. refl });
 }
@@ -53,6 +59,10 @@ loop-self-preserved g c = record {
       let size = length-take-le last c.loop-self.self.undos.items (omega (arith, c.len-last.ensures)) in
       let so_far = c.loop-self.invariant.fewer in
       omega (arith, was, size, so_far, c.len-last.ensures, c.len.ensures, c.loop-self-test.true);
+  back = one_back g.L.Law.holds c.args.self.now.undos.items c.loop-self.self.undos.items _ (c.len-last.result - 1)
+      c.index-undo.result.now c.args.self.now.attempts.caller c.loop-self.self.attempts.caller _ c.loop-self.invariant.back
+      (omega (arith, c.len-last.ensures, c.len.ensures, c.loop-self-test.true)) c.index-undo.ensures
+      (c.truncate.ensures.items ∙ ap (take (c.len-last.result - 1)) c.in_ok-put.ensures.undos) c.in_ok-put.ensures.once;
   among =
       let last = c.len-last.result - 1 in
       subst (λ (xs : List Undo). All (Contains c.args.self.now.undos.items) xs)
@@ -66,3 +76,11 @@ loop-self-preserved g c = record {
       (omega (arith, size, c.len-last.ensures, c.len.ensures, c.loop-self-test.true)) c.index-undo.ensures
       (c.truncate.ensures.items ∙ ap (take (c.len-last.result - 1)) c.in_ok-put.ensures.undos) exchanges;
 }
+
+pub returns-clause-back : goal.returns-clause-back
+returns-clause-back g c first added was size =
+    let (left, so_far) = c.loop-self.invariant.undoes first added was size in
+    let behind = ap (λ (xs : List Undo). length xs) so_far.is ∙ length-append first left in
+    back_to g.L.Law.holds c.args.self.now.undos.items c.loop-self.self.undos.items first added c.args.kept
+    c.args.self.now.attempts.caller c.loop-self.self.attempts.caller c.loop-self.invariant.back was size
+    (omega (arith, c.len.ensures, c.loop-self-test.false)) (omega (arith, behind, size))

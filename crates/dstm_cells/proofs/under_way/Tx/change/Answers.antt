@@ -33,8 +33,11 @@ returns-in_err-note_undo-clause-stops g c =
     let k = c.args.self.now.attempts.caller in
     let n = c.write.new.self.caller in
     is_err c.from_residual-in_err-note_undo.result (stop_by Memory)
-    (λ stop. StopsChange g.L.Law.holds c.args.self.now.notes c.args.object k n stop.why) c.from_residual-in_err-note_undo.ensures.1
-    (c.in_err-note_undo.ensures.failed.0, found_unset g.L.Law.holds k n c.args.object c.in_ok-value.value c.in_ok-value.ensures.finds)
+    (λ stop. StopsChange g.L.Law.holds c.args.self.now.notes c.args.object k n stop.why) c.from_residual-in_err-note_undo.ensures.1 (
+      c.in_err-note_undo.ensures.failed.0,
+      c.in_ok-value.ensures.once,
+      found_unset g.L.Law.holds k n c.args.object c.in_ok-value.value c.in_ok-value.ensures.finds,
+    )
 
 pub returns-in_err-note_undo-clause-refuses : goal.returns-in_err-note_undo-clause-refuses
 returns-in_err-note_undo-clause-refuses g c =

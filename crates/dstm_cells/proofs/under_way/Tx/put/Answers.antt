@@ -29,3 +29,7 @@ returns-clause-puts g c = (
   c.in_ok-_old._old,
   exchanges g.L.Law.holds _ _ _ c.args.object c.in_ok-_old._old c.args.value c.in_ok-_old.ensures.finds c.set.ensures.puts,
 )
+
+pub returns-clause-once : goal.returns-clause-once
+returns-clause-once g c =
+    record { opened = c.write.new.self.caller; once = c.in_ok-_old.ensures.once; still = c.set.ensures.still }

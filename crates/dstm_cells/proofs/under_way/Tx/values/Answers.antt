@@ -4,7 +4,7 @@ use Rattle.dstm_cells.specs.Attempts.{WasDisturbed}
 use Rattle.dstm_cells.specs.Cells.{AreValues}
 use Rattle.dstm_cells.specs.declared.under_way.Tx.{Tx}
 use Rattle.dstm_attempts.proofs.Settling.{settles_right}
-use Rattle.dstm_attempts.proofs.UnderWay.{nothing_twice}
+use Rattle.dstm_attempts.proofs.UnderWay.{nothing_twice, same_law}
 use Rattle.dstm_cells.proofs.Reading.{disturbed_once}
 use Rattle.dstm_cells.proofs.Spending.{begun_in_vain}
 use Rattle.dstm_cells.proofs.Waiting.{nothing_added}
@@ -19,13 +19,27 @@ returns-then-commit-clause-reads g c =
     let begins : Begins g.L.Law.holds c.loop-reading.self.attempts.caller began = c.in-Ok.ensures.begins in
     let takes = c.commit.ensures.takes c.if-commit.true in
     record {
+      attempts = c.loop-reading._reading;
+      before = c.loop-reading.self.attempts.caller;
+      disturbed = c.loop-reading.invariant.2;
+      began = began;
+      begins = begins;
+      last = ended;
+      reads = c.in-Ok-all.ensures.in_turn;
       after = new;
-      number = takes.number;
+      takes = takes;
       settles = settles_right g.L.Law.holds c.args.self.ghost_name c.args.self.now.attempts.caller
           c.loop-reading.self.attempts.caller began ended new
           c.loop-reading.invariant.0 begins c.in-Ok-all.ensures.keeps takes (AreValues c.in-Ok-all.values.items)
           (λ map may. let is = c.in-Ok-all.ensures.reads map may in (is, c.in-Ok-all.ensures.untouched map ∙ is));
     }
+
+pub returns-then-commit-clause-lawful : goal.returns-then-commit-clause-lawful
+returns-then-commit-clause-lawful g c =
+    let first = c.args.self.now.attempts.caller in
+    let began = c.begin.new.self.attempts.caller in
+    let nothing = nothing_twice first c.loop-reading.self.attempts.caller began c.loop-reading.invariant.0 c.begin.ensures.nothing in
+    subst (λ law. g.L.Law.holds law c.in-Ok-all.values.items) (same_law first began nothing.home) c.in-Ok-all.ensures.lawful
 
 pub loop-reading-init : goal.loop-reading-init
 loop-reading-init g c = (nothing_added c.args.self.now.attempts.caller, omega arith, refl)
@@ -95,5 +109,5 @@ returns-in_default-clause-unread g c failed =
       count = c.loop-reading._reading;
       last = c.loop-reading.self.attempts.caller;
       disturbed = disturbed;
-      ends = inr (c.in_default.ensures.spent.1, c.in_default.ensures.none);
+      ends = inr (c.in_default.ensures.unbegun, c.in_default.ensures.spent.1, c.in_default.ensures.none);
     }

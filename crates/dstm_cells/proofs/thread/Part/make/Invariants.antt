@@ -1,7 +1,7 @@
 use Rattle.std.proofs.Common.{◌≡◌, ◌≤◌}
 use Rattle.dstm_attempts.specs.Attempts.{IsQuit, begun}
 use Rattle.dstm_cells.specs.Closures.{KeepsEach, KeepsPatience, TriedInVain}
-use Rattle.dstm_cells.proofs.thread.Part.atomically.Given as goal
+use Rattle.dstm_cells.proofs.thread.Part.make.Given as goal
 
 -- nothing was committed so far, and each call was on an attempt of its own
 abbrev pub invariant-loop-number : goal.invariant-loop-number

@@ -1,53 +1,78 @@
+use Rattle.std.specs.Prelude.{Result}
 use Rattle.std.proofs.Common.{◌≡◌, ◌≤◌, ◌∙◌, ap, arith, inl, inr, of_calls, refl, subst, suc, sym, zero}
 use Rattle.std.specs.Fn.{CalledAtMut}
-use Rattle.dstm_tables.specs.Callers.{home_of}
 use Rattle.dstm_tables.specs.declared.tables.Caller.{Caller}
 use Rattle.dstm_attempts.specs.Attempts.{AddsNothing, IsQuit, attempt, attempts_of, begun}
-use Rattle.dstm_cells.specs.Attempts.{StaysFor}
-use Rattle.dstm_cells.specs.Closures.{KeepsEach, TriesOn}
+use Rattle.dstm_cells.specs.Attempts.{IsLeft, StaysFor}
+use Rattle.dstm_cells.specs.Closures.{CalledAnew, KeepsEach, TriesOn}
+use Rattle.dstm_cells.specs.declared.error.Stop.{Stop}
 use Rattle.dstm_cells.specs.declared.thread.Part.{Part}
-use Rattle.dstm_attempts.proofs.UnderWay.{adds_nothing, begins_none, lost_quit, nothing_twice, renewed_quit, spent_at, takes_quit}
+use Rattle.dstm_attempts.proofs.UnderWay.{adds_nothing, begins_none, nothing_twice, renewed_quit, spent_at}
 use Rattle.dstm_cells.proofs.Calling.{called_at, called_from, if_err, is_err}
-use Rattle.dstm_cells.proofs.Spending.{renewed_nothing, same_attempts, takes_home}
+use Rattle.dstm_cells.proofs.Spending.{renewed_nothing, same_attempts}
 use Rattle.dstm_cells.proofs.Waiting.{kept_nothing, stop_nothing}
-use Rattle.dstm_cells.proofs.thread.Part.atomically.Given.{Over}
-use Rattle.dstm_cells.proofs.thread.Part.atomically.Goals as goal
-use Rattle.dstm_cells.proofs.thread.Part.atomically.Goals.{After-f, in-Ok+else-commit, in-Err+in_ok-leave-in-Err}
+use Rattle.dstm_cells.proofs.thread.Part.make.Given.{Over}
+use Rattle.dstm_cells.proofs.thread.Part.make.Goals as goal
+use Rattle.dstm_cells.proofs.thread.Part.make.Goals.{After-f, in-Ok+else-end, in-Err+in_ok-leave-in-Err}
 
-pub commit-requires : goal.commit-requires
-commit-requires g c =
+pub end-requires : goal.end-requires
+end-requires g c =
     let call = called_at g.F.FnMut c.loop-number.f c.f.new.self _ _ _ c.f.ensures in
     record {
-      lawful = c.requires.lawful c.loop-number.f c.f.new.self c.begin.new.self c.f.new.arg2 _
+      lawful = λ commits.
+          c.requires.lawful commits c.loop-number.f c.f.new.self c.begin.new.self c.f.new.arg2 _
           (subst (λ r. CalledAtMut g.F.FnMut c.loop-number.f c.begin.new.self r c.f.new.self c.f.new.arg2) c.in-Ok.is call)
           c.in_ok-begin.ensures.begins.untouched;
     }
 
-pub returns-then-commit-clause-took : goal.returns-then-commit-clause-took
-returns-then-commit-clause-took g c keeps = record {
-  last = record {
-    before = g.X.Transaction.caller c.loop-number.self.tx;
-    reached = c.loop-number.f;
-    tried = (c.loop-number.invariant.1 keeps).0;
-    after = c.f.new.self;
-    on = called_from g.X.Transaction.caller g.F.FnMut _ _ c.loop-number.f c.f.new.self _ _ _ _ c.in_ok-begin.ensures.begins keeps
-        c.f.ensures c.in-Ok.is;
-  };
-  takes = c.commit.ensures.takes c.if-commit.true;
+-- the closure was called on an attempt that had begun, and all before it came to nothing
+abbrev reached : (g : Over) (c : After-f g) → KeepsEach g.X.Transaction.caller g.F.FnMut → (answer : Result g.row.R.Denot Stop) → c.f.result ≡ answer →
+    CalledAnew g.X.Transaction.caller g.F.FnMut g.X.Rule.Law.holds g.X.Transaction.patience
+    (g.X.Transaction.caller c.args.self.now.tx) c.args.f answer
+reached g c keeps answer is = record {
+  before = g.X.Transaction.caller c.loop-number.self.tx;
+  reached = c.loop-number.f;
+  tried = (c.loop-number.invariant.1 keeps).0;
+  after = c.f.new.self;
+  on = called_from g.X.Transaction.caller g.F.FnMut _ _ c.loop-number.f c.f.new.self _ _ _ _ c.in_ok-begin.ensures.begins keeps
+      c.f.ensures is;
 }
+
+-- the closure was called on an attempt, and nothing was committed before
+called_nothing : (g : Over) (c : After-f g) → KeepsEach g.X.Transaction.caller g.F.FnMut →
+    AddsNothing (g.X.Transaction.caller c.args.self.now.tx) (g.X.Transaction.caller c.f.new.arg2)
+called_nothing g c keeps =
+    let caller = g.X.Transaction.caller in
+    let call = called_at g.F.FnMut c.loop-number.f c.f.new.self _ _ _ c.f.ensures in
+    nothing_twice (caller c.args.self.now.tx) (caller c.loop-number.self.tx) (caller c.f.new.arg2)
+    (c.loop-number.invariant.1 keeps).0.nothing
+    (nothing_twice (caller c.loop-number.self.tx) (caller c.begin.new.self) (caller c.f.new.arg2) c.begin.ensures.nothing
+    (adds_nothing (caller c.begin.new.self) (caller c.f.new.arg2) (keeps _ _ _ _ _ call)))
+
+pub returns-then-end-clause-took : goal.returns-then-end-clause-took
+returns-then-end-clause-took g c commits keeps = record {
+  last = reached g (goal.at.returns-then-end-clause-took g c).After-f keeps _ c.in-Ok.is;
+  takes = c.end.ensures.takes commits c.if-end.true;
+}
+
+pub returns-then-end-clause-viewed : goal.returns-then-end-clause-viewed
+returns-then-end-clause-viewed g c commits keeps =
+    let after = (goal.at.returns-then-end-clause-viewed g c).After-f in
+    let left = c.end.ensures.leaves commits in
+    record {
+      last = reached g after keeps _ c.in-Ok.is;
+      left = subst (λ live. IsLeft g.X.Rule.Law.holds live (g.X.Transaction.caller c.f.new.arg2) (g.X.Transaction.caller c.end.new.tx)) c.if-end.true left;
+      nothing = nothing_twice (g.X.Transaction.caller c.args.self.now.tx) (g.X.Transaction.caller c.f.new.arg2) _
+          (called_nothing g after keeps) (adds_nothing (g.X.Transaction.caller c.f.new.arg2) _ left.keeps);
+    }
 
 pub returns-in_err-leave-in-Err-clause-nothing : goal.returns-in_err-leave-in-Err-clause-nothing
 returns-in_err-leave-in-Err-clause-nothing g c keeps =
     let caller = g.X.Transaction.caller in
-    let call = called_at g.F.FnMut c.loop-number.f c.f.new.self _ _ _ c.f.ensures in
-    let after = caller c.f.new.arg2 in
     if_err c.from_residual-in_err-leave-in-Err.result
-    (nothing_twice (caller c.args.self.now.tx) (caller c.loop-number.self.tx) (caller c.leave.new.self)
-    (c.loop-number.invariant.1 keeps).0.nothing
-    (nothing_twice (caller c.loop-number.self.tx) (caller c.begin.new.self) (caller c.leave.new.self) c.begin.ensures.nothing
-    (nothing_twice (caller c.begin.new.self) after (caller c.leave.new.self)
-    (adds_nothing (caller c.begin.new.self) after (keeps _ _ _ _ _ call))
-    (stop_nothing c.in-Err.stop.why after (caller c.leave.new.self) c.leave.ensures.stays).0)))
+    (nothing_twice (caller c.args.self.now.tx) (caller c.f.new.arg2) (caller c.leave.new.self)
+    (called_nothing g (goal.at.returns-in_err-leave-in-Err-clause-nothing g c).After-f keeps)
+    (stop_nothing c.in-Err.stop.why (caller c.f.new.arg2) (caller c.leave.new.self) c.leave.ensures.stays).0)
 
 pub returns-in_err-leave-in-Err-clause-why : goal.returns-in_err-leave-in-Err-clause-why
 returns-in_err-leave-in-Err-clause-why g c keeps =
@@ -55,14 +80,7 @@ returns-in_err-leave-in-Err-clause-why g c keeps =
     is_err c.from_residual-in_err-leave-in-Err.result why _ c.from_residual-in_err-leave-in-Err.ensures.1
     (inr (record {
       stop = c.in-Err.stop;
-      last = record {
-        before = g.X.Transaction.caller c.loop-number.self.tx;
-        reached = c.loop-number.f;
-        tried = (c.loop-number.invariant.1 keeps).0;
-        after = c.f.new.self;
-        on = called_from g.X.Transaction.caller g.F.FnMut _ _ c.loop-number.f c.f.new.self _ _ _ _ c.in_ok-begin.ensures.begins
-            keeps c.f.ensures c.in-Err.is;
-      };
+      last = reached g (goal.at.returns-in_err-leave-in-Err-clause-why g c).After-f keeps _ c.in-Err.is;
       follows = rw c.in_err-leave-in-Err.was at c.leave.ensures.follows;
       leaves = c.leave.ensures.stays;
     }))
@@ -88,6 +106,7 @@ returns-clause-why g c keeps =
         reached = c.loop-number.f;
         tried = tried;
         none = refl;
+        unbegun = inl refl;
         spent = spent_at (caller c.loop-number.self.tx) c.attempts-number-end.result
             (c.attempts-number-end.ensures ∙ ap (λ (k : Caller _). attempts_of k) c.renew.ensures.caller ∙ same_attempts first _ (renewed_nothing first).home
             ∙ sym (same_attempts first (caller c.loop-number.self.tx) tried.nothing.home))
@@ -106,29 +125,20 @@ returns-in_err-begin-clause-why g c keeps =
         reached = c.loop-number.f;
         tried = (c.loop-number.invariant.1 keeps).0;
         none = c.in_err-begin.ensures.none;
+        unbegun = inr c.in_err-begin.ensures.unbegun;
         spent = c.in_err-begin.ensures.spent.1;
       },
     ))
 
--- an attempt has begun, and its closure was called on it
-called_home : (g : Over) (c : After-f g) → KeepsEach g.X.Transaction.caller g.F.FnMut →
-    home_of (g.X.Transaction.caller c.f.new.arg2) ≡ home_of (g.X.Transaction.caller c.args.self.now.tx)
-called_home g c keeps =
-    let caller = g.X.Transaction.caller in
-    let call = called_at g.F.FnMut c.loop-number.f c.f.new.self _ _ _ c.f.ensures in
-    (adds_nothing (caller c.begin.new.self) (caller c.f.new.arg2) (keeps _ _ _ _ _ call)).home ∙ c.begin.ensures.nothing.home
-    ∙ (c.loop-number.invariant.1 keeps).0.nothing.home
-
-pub returns-then-commit-clause-home : goal.returns-then-commit-clause-home
-returns-then-commit-clause-home g c keeps =
-    takes_home g.X.Rule.Law.holds _ _ (c.commit.ensures.takes c.if-commit.true)
-    ∙ called_home g (goal.at.returns-then-commit-clause-home g c).After-f keeps
+pub returns-then-end-clause-home : goal.returns-then-end-clause-home
+returns-then-end-clause-home g c keeps =
+    c.end.ensures.home ∙ (called_nothing g (goal.at.returns-then-end-clause-home g c).After-f keeps).home
 
 pub returns-in_err-leave-in-Err-clause-home : goal.returns-in_err-leave-in-Err-clause-home
 returns-in_err-leave-in-Err-clause-home g c keeps =
     let caller = g.X.Transaction.caller in
     (stop_nothing c.in-Err.stop.why (caller c.f.new.arg2) (caller c.leave.new.self) c.leave.ensures.stays).0.home
-    ∙ called_home g (goal.at.returns-in_err-leave-in-Err-clause-home g c).After-f keeps
+    ∙ (called_nothing g (goal.at.returns-in_err-leave-in-Err-clause-home g c).After-f keeps).home
 
 pub returns-in_err-begin-clause-home : goal.returns-in_err-begin-clause-home
 returns-in_err-begin-clause-home g c keeps = c.begin.ensures.nothing.home ∙ (c.loop-number.invariant.1 keeps).0.nothing.home
@@ -136,8 +146,8 @@ returns-in_err-begin-clause-home g c keeps = c.begin.ensures.nothing.home ∙ (c
 pub returns-clause-home : goal.returns-clause-home
 returns-clause-home g c keeps = (c.loop-number.invariant.1 keeps).0.nothing.home
 
-pub returns-then-commit-clause-quit : goal.returns-then-commit-clause-quit
-returns-then-commit-clause-quit g c quit = takes_quit g.X.Rule.Law.holds _ _ (c.commit.ensures.takes c.if-commit.true)
+pub returns-then-end-clause-quit : goal.returns-then-end-clause-quit
+returns-then-end-clause-quit g c quit = c.end.ensures.quit
 
 pub returns-in_err-leave-in-Err-clause-quit : goal.returns-in_err-leave-in-Err-clause-quit
 returns-in_err-leave-in-Err-clause-quit g c quit = c.leave.ensures.quit
@@ -148,9 +158,9 @@ returns-in_err-begin-clause-quit g c quit = c.in_err-begin.ensures.quit
 pub returns-clause-quit : goal.returns-clause-quit
 returns-clause-quit g c = c.loop-number.invariant.2
 
-pub returns-then-commit-clause-patience : goal.returns-then-commit-clause-patience
-returns-then-commit-clause-patience g c keeps =
-    c.commit.ensures.patience ∙ keeps _ _ _ _ _ (called_at g.F.FnMut c.loop-number.f c.f.new.self _ _ _ c.f.ensures)
+pub returns-then-end-clause-patience : goal.returns-then-end-clause-patience
+returns-then-end-clause-patience g c keeps =
+    c.end.ensures.patience ∙ keeps _ _ _ _ _ (called_at g.F.FnMut c.loop-number.f c.f.new.self _ _ _ c.f.ensures)
     ∙ c.begin.ensures.patience ∙ c.loop-number.invariant.3 keeps
 
 pub returns-in_err-leave-in-Err-clause-patience : goal.returns-in_err-leave-in-Err-clause-patience
@@ -194,10 +204,10 @@ loop-number-preserved g c = (
       let after = caller c.f.new.arg2 in
       let next : TriesOn caller g.F.FnMut g.X.Rule.Law.holds g.X.Transaction.patience c.f.result c.f.new.arg2 (caller c.match-f.self.tx) =
       elim c.match-f.branch [
-        | in-Ok+else-commit w ↦
+        | in-Ok+else-end w ↦
             subst (λ (p : Part _). TriesOn caller g.F.FnMut g.X.Rule.Law.holds g.X.Transaction.patience c.f.result c.f.new.arg2 (caller p.tx)) (sym w.self-is)
-            (subst (λ r. TriesOn caller g.F.FnMut g.X.Rule.Law.holds g.X.Transaction.patience r c.f.new.arg2 (caller w.commit.new.self)) (sym w.in-Ok.is)
-            (w.commit.ensures.keeps w.if-commit.false, w.commit.ensures.lost w.if-commit.false))
+            (subst (λ r. TriesOn caller g.F.FnMut g.X.Rule.Law.holds g.X.Transaction.patience r c.f.new.arg2 (caller w.end.new.tx)) (sym w.in-Ok.is)
+            (w.end.ensures.keeps w.if-end.false, w.end.ensures.lost w.if-end.false))
         | in-Err+in_ok-leave-in-Err w ↦
             subst (λ (p : Part _). TriesOn caller g.F.FnMut g.X.Rule.Law.holds g.X.Transaction.patience c.f.result c.f.new.arg2 (caller p.tx)) (sym w.self-is)
             (subst (λ r. TriesOn caller g.F.FnMut g.X.Rule.Law.holds g.X.Transaction.patience r c.f.new.arg2 (caller w.leave.new.self)) (sym w.in-Err.is)
@@ -205,9 +215,9 @@ loop-number-preserved g c = (
       ] in
       let left : AddsNothing after (caller c.match-f.self.tx) × (begun after ≤ begun (caller c.match-f.self.tx)) =
       elim c.match-f.branch [
-        | in-Ok+else-commit w ↦
+        | in-Ok+else-end w ↦
             kept_nothing after (caller c.match-f.self.tx)
-            (ap (λ (p : Part _). attempt (caller p.tx)) w.self-is ∙ w.commit.ensures.keeps w.if-commit.false)
+            (ap (λ (p : Part _). attempt (caller p.tx)) w.self-is ∙ w.end.ensures.keeps w.if-end.false)
         | in-Err+in_ok-leave-in-Err w ↦
             stop_nothing w.in-Err.stop.why after (caller c.match-f.self.tx)
             (subst (λ (p : Part _). StaysFor w.in-Err.stop.why after (caller p.tx)) (sym w.self-is) w.leave.ensures.stays)
@@ -236,9 +246,8 @@ loop-number-preserved g c = (
   λ quit.
       let caller = g.X.Transaction.caller in
       elim c.match-f.branch [
-        | in-Ok+else-commit w ↦
-            subst (λ (p : Part _). IsQuit (caller p.tx)) (sym w.self-is)
-            (lost_quit g.X.Rule.Law.holds _ _ (w.commit.ensures.lost w.if-commit.false))
+        | in-Ok+else-end w ↦
+            subst (λ (p : Part _). IsQuit (caller p.tx)) (sym w.self-is) w.end.ensures.quit
         | in-Err+in_ok-leave-in-Err w ↦
             subst (λ (p : Part _). IsQuit (caller p.tx)) (sym w.self-is) w.leave.ensures.quit
       ],
@@ -247,7 +256,7 @@ loop-number-preserved g c = (
       let call = called_at g.F.FnMut c.loop-number.f c.f.new.self _ _ _ c.f.ensures in
       let before = keeps _ _ _ _ _ call ∙ c.begin.ensures.patience ∙ c.loop-number.invariant.3 keeps in
       elim c.match-f.branch [
-        | in-Ok+else-commit w ↦ ap (λ (p : Part _). patience p.tx) w.self-is ∙ w.commit.ensures.patience ∙ before
+        | in-Ok+else-end w ↦ ap (λ (p : Part _). patience p.tx) w.self-is ∙ w.end.ensures.patience ∙ before
         | in-Err+in_ok-leave-in-Err w ↦ ap (λ (p : Part _). patience p.tx) w.self-is ∙ w.leave.ensures.patience ∙ before
       ],
 )
