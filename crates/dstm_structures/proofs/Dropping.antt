@@ -4,7 +4,7 @@ use Rattle.dstm_model.specs.declared.value.Val.{Val}
 use Rattle.dstm_model.specs.Map.{value_at}
 use Rattle.dstm_structures.specs.Maps.{key_of}
 use Rattle.dstm_structures.specs.Orders.{Below, Has, HoldsIn, KeepsButForks, Trie, fork, level_in, link_in, link_to, low_of, root_in, tip, words_of}
-use Rattle.dstm_structures.specs.Tips.{AddsKey, AddsTip, DropsKey, DropsTip, FreesFork, Gains, KeepsButFork, KeepsButOrder, LeavesNone, LeavesRest, LooksFork, Loses, SetsRoot, SetsSide, TellsFork, key_told, words_at}
+use Rattle.dstm_structures.specs.Tips.{AddsKey, AddsTip, DropsKey, DropsTip, FreesFork, Gains, KeepsButFork, KeepsButOrder, LeavesNone, LeavesRest, LooksFork, Loses, SetsRoot, SetsSide, TellsFork, Uses, key_told, words_at}
 use Rattle.dstm_structures.specs.declared.cells.Rows.{Rows}
 use Rattle.dstm_structures.specs.declared.order.Fork.{Fork}
 use Rattle.dstm_structures.specs.declared.order.Link.TheVariants.{Nothing, Tip}
@@ -188,7 +188,7 @@ module _ (cells : Rows) where
                   (loses_all_left cells key at under bits (2 * from + 2) from held.level held.prefix now l r before near
                   after holds b refl (keys_stay cells before near d.others) (keys_stay_one cells from near after frees.others)
                   (words_stay cells from near after frees.others) (emptied g.left)
-                  (below-key held.level (2 * held.prefix) l b.2 at key near_has) g.stays)
+                  (below-key held.level (2 * held.prefix) l b.2 at key near_has) g.stays frees.free)
               by true odd d =
                   let near_has : Has at key r = odd_side l r bits b odd has in
                   let g = d.loses (2 * held.prefix + 1) r right holds.6 b.3 near_has in
@@ -197,7 +197,7 @@ module _ (cells : Rows) where
                   (loses_all_right cells key at under bits (2 * from + 2) from held.level held.prefix now l r before near
                   after holds b refl (keys_stay cells before near d.others) (keys_stay_one cells from near after frees.others)
                   (words_stay cells from near after frees.others) (emptied g.left)
-                  (below-key held.level (2 * held.prefix + 1) r b.3 at key near_has) g.stays)
+                  (below-key held.level (2 * held.prefix + 1) r b.3 at key near_has) g.stays frees.free)
 
           pub drops_fork : DropsTip cells key at link under (cond greater held.left held.right) before after
           drops_fork = drops_in (cond greater held.left held.right) all_gone frees.others
@@ -283,10 +283,11 @@ module _ (cells : Rows) where
         some_place : 0 < n
         some_place = cells.some
 
-    pub adds_key : (key at cell : ℕ) → key / 2 ^ 64 ≡ 0 → AddsTip cells key at cell root 64 now before near →
+    adds_key : (key at cell : ℕ) → key / 2 ^ 64 ≡ 0 → AddsTip cells key at cell root 64 now before near →
         AddsKey cells key at cell before after
     adds_key key at cell no_bits adds = record {
       alone = λ zero. root_now ∙ (adds.alone (root_was ∙ zero)).0;
+      unforked = λ zero c. words_same c ∙ ap (λ (xs : List Val). words_at cells xs c) (adds.alone (root_was ∙ zero)).1;
       gains = λ t is held below absent told_key free.
           moved t (adds.gains 0 t (root_was ∙ is) held below no_bits absent told_key free);
       others = order_keeps;
@@ -298,15 +299,11 @@ module _ (cells : Rows) where
           grown = g.grown;
           is = root_now ∙ g.is;
           held = held_there g.grown g.held;
-          below = g.below;
-          there = g.there;
-          kept = g.kept;
-          no_more = g.no_more;
-          uses = g.uses;
+          more = g.more;
           stays = λ c off apart. words_same c ∙ g.stays c off apart;
         }
 
-    pub drops_key : (key at : ℕ) → DropsTip cells key at root 64 now before near → DropsKey cells key at before after
+    drops_key : (key at : ℕ) → DropsTip cells key at root 64 now before near → DropsKey cells key at before after
     drops_key key at drops = record {
       loses = λ t is held below has. moved t (drops.loses 0 t (root_was ∙ is) held below has);
       others = order_keeps;
@@ -314,16 +311,19 @@ module _ (cells : Rows) where
       where
         left_there : (t : Trie) → LeavesNone cells key at now t ⊎ LeavesRest cells key 64 0 now t near →
             LeavesNone cells key at (root_in first n after) t ⊎ LeavesRest cells key 64 0 (root_in first n after) t after
-        left_there t (inl g) = inl (record { is = root_now ∙ g.is; alone = g.alone })
+        left_there t (inl g) = inl (record { is = root_now ∙ g.is; alone = g.alone; bare = g.bare })
         left_there t (inr g) = inr (record {
           rest = g.rest;
           is = root_now ∙ g.is;
           held = held_there g.rest g.held;
-          below = g.below;
-          kept = g.kept;
-          no_more = g.no_more;
-          uses = g.uses;
+          less = g.less;
+          freed = λ c used. still_free c (g.freed c used);
         })
+          where
+            still_free : (c : ℕ) → ((words_at cells near c).1 ≡ 0) ⊎ Uses c g.rest →
+                ((words_at cells after c).1 ≡ 0) ⊎ Uses c g.rest
+            still_free c (inl free) = inl (ap (λ (w : ℕ × ℕ). w.1) (words_same c) ∙ free)
+            still_free c (inr used) = inr used
 
         moved : (t : Trie) → Loses cells key at 64 0 now t before near →
             Loses cells key at 64 0 (root_in first n after) t before after
@@ -331,3 +331,18 @@ module _ (cells : Rows) where
           left = left_there t g.left;
           stays = λ c off. words_same c ∙ g.stays c off;
         }
+
+  -- and the link to the whole trie was read before
+  pub key_added : (o root now key at cell : ℕ) (before mid near after : List Val) → o ≡ first + 2 * n →
+      Reads low_of o root before mid → AddsTip cells key at cell root 64 now mid near → SetsRoot cells root now near after →
+      key / 2 ^ 64 ≡ 0 → AddsKey cells key at cell before after
+  key_added o root now key at cell before mid near after o_is reads adds sets no_bits =
+      let told = subst (λ (xs : List Val). AddsTip cells key at cell root 64 now xs near) reads.same adds in
+      adds_key o root now before mid near after o_is reads told.others sets key at cell no_bits told
+
+  pub key_dropped : (o root now key at : ℕ) (before mid near after : List Val) → o ≡ first + 2 * n →
+      Reads low_of o root before mid → DropsTip cells key at root 64 now mid near → SetsRoot cells root now near after →
+      DropsKey cells key at before after
+  key_dropped o root now key at before mid near after o_is reads drops sets =
+      let told = subst (λ (xs : List Val). DropsTip cells key at root 64 now xs near) reads.same drops in
+      drops_key o root now before mid near after o_is reads told.others sets key at told

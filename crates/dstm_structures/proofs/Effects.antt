@@ -1,20 +1,23 @@
 -- What the calls on a queue do, of each map at which the attempt may have begun, and why they stop.
-use Rattle.std.proofs.Common.{◌≡◌, ◌∙◌, ℕ, ◌+◌, ◌-◌, ◌<◌, ◌≤◌, Bool, true, false, List, ◌∷◌, ap, arith, length, refl, slice_set, subst, sym}
+use Rattle.std.proofs.Common.{◌≡◌, ◌∙◌, ℕ, ◌+◌, ◌-◌, ◌<◌, ◌≤◌, Bool, true, false, List, [], ◌∷◌, ap, append-nil, arith, length, refl, slice_set, subst, sym}
 use Rattle.std.specs.Prelude.{Some}
+use Rattle.dstm_model.specs.declared.value.Law.{Ghosts}
 use Rattle.dstm_model.specs.declared.value.Val.{Val}
 use Rattle.dstm_model.specs.Map.{value_at}
 use Rattle.dstm_mem.proofs.WithSet.{length-with_set}
 use Rattle.dstm_tables.specs.declared.tables.Caller.{Caller}
 use Rattle.dstm_tables.specs.declared.tables.Caller.TheVariants.{Dstm, Tl2}
-use Rattle.dstm_attempts.specs.Attempts.{Attempt, Keeps, objects_of, written}
+use Rattle.dstm_attempts.specs.Attempts.{Attempt, Keeps, Opens, objects_of, written}
 use Rattle.dstm_tables.specs.Tables.{objects_there}
-use Rattle.dstm_cells.specs.UnderWay.{Changes, Gets, MayBegin, StopsLook, seen}
+use Rattle.dstm_cells.specs.Alternatives.{HasNoted, Noting}
+use Rattle.dstm_cells.specs.UnderWay.{Changes, Gets, MayBegin, StopsChange, StopsLook, seen}
 use Rattle.dstm_cells.specs.declared.error.Why.{Why}
 use Rattle.dstm_cells.specs.declared.error.Why.TheVariants.{Again, Retry, Foreign, Memory}
+use Rattle.dstm_cells.specs.declared.under_way.Tx.{Tx}
 use Rattle.dstm_cells.proofs.Found.{found_at, put_at}
 use Rattle.dstm_structures.specs.Circles.{behind, next}
-use Rattle.dstm_structures.specs.Effects.{Does, Stops}
-use Rattle.dstm_structures.specs.Queues.{Counts, Fronts, Pops, Pushes, end_of, ends_in, items_in, pair_of, within}
+use Rattle.dstm_structures.specs.Effects.{Does, GoesOn, Stops}
+use Rattle.dstm_structures.specs.Queues.{Counts, Fronts, OpensEnds, OpensPlace, OpensToFront, Pops, Pushes, end_of, ends_in, items_in, pair_of, within}
 use Rattle.dstm_structures.specs.declared.queue.Queue.{Queue}
 use Rattle.dstm_structures.proofs.Circles.{behind-within}
 use Rattle.dstm_structures.proofs.Queues.{items-first, items-length, items-less, items-more, others-once, others-twice, start-within}
@@ -25,13 +28,33 @@ module _ {L : Type 0} where
   pub same_objects : (k m : Caller L) → Keeps k m → objects_of m ≡ objects_of k
   same_objects k m same = ap (λ (a : Attempt L). objects_there a.home) same
 
-  module _ (holds : L → List Val → Type 0) (size o : ℕ) (notes : Bool) (k m n : Caller L) (keeps : Keeps k m)
-      (inside : o < size) where
-    pub stops-look : (why : Why) → StopsLook holds o m n why → Stops size notes k n why
+  module _ {ghosts : Ghosts L} (holds : L → List Val → Type 0) (size o : ℕ) (notes : Bool) (k m n : Tx L ghosts)
+      (keeps : Keeps k.attempts.caller m.attempts.caller) (inside : o < size) where
+    pub stops-look : (why : Why) → StopsLook holds o m.attempts.caller n.attempts.caller why → Stops size notes k n why
     stops-look Again s = s.why.0
     stops-look Retry s = absurd s
-    stops-look Foreign s = omega (arith, s.why, same_objects k m keeps, inside)
+    stops-look Foreign s = omega (arith, s.why, same_objects k.attempts.caller m.attempts.caller keeps, inside)
     stops-look Memory s = absurd s
+
+    pub stops-change : (why : Why) → m.notes ≡ notes →
+        StopsChange holds m.notes o m.attempts.caller n.attempts.caller why → Stops size notes k n why
+    stops-change Again same s = s.why.0
+    stops-change Retry same s = absurd s
+    stops-change Foreign same s = omega (arith, s.why, same_objects k.attempts.caller m.attempts.caller keeps, inside)
+    stops-change Memory same s = sym same ∙ s.0
+
+  -- whether it is in an alternative stays as it was
+  module _ {holds : L → List Val → Type 0} where
+    pub notes-stay : {k m : Noting L} → ((first : Noting L) → HasNoted holds first k → HasNoted holds first m) → m.notes ≡ k.notes
+    notes-stay {k} notes = ap (λ (s : Bool × ℕ). s.0) (notes k (record {
+      keeps = refl;
+      same = refl;
+      noted = λ is.
+          record { added = []; is = sym (append-nil k.undos); narrows = λ map may. may; back = λ map may. refl };
+    })).same
+
+    pub goes-stay : {ghosts : Ghosts L} {k m : Tx L ghosts} → GoesOn holds k m → m.notes ≡ k.notes
+    goes-stay goes = notes-stay goes.notes
 
   -- ---- what it does
 
@@ -51,6 +74,40 @@ module _ {L T : Type 0} (holds : L → List Val → Type 0) (found : Val → T) 
 
   abbrev ends_at : List Val → ℕ × ℕ
   ends_at map = ends_in queue.cells.first n map
+
+  -- ---- what is opened
+
+  at-object : (writes : Bool) (k m : Caller L) {o p : ℕ} → o ≡ p → Opens holds writes o k m → Opens holds writes p k m
+  at-object writes k m is opens = subst (λ (x : ℕ). Opens holds writes x k m) is opens
+
+  pub opens-ends : (k m : Caller L) {o : ℕ} → o ≡ queue.cells.first → Opens holds false o k m →
+      OpensEnds found queue holds k m
+  opens-ends k m is opens = (m, at-object false k m is opens, refl)
+
+  -- a place of a queue that has a value
+  pub first-inside : (ends place : ℕ × ℕ) → place ≡ within n ends → (place.1 ≡ 0 → ⊥) → place.0 < n
+  first-inside ends place is some =
+      subst (λ (x : ℕ × ℕ). x.0 < n) (sym is) (start-within n ends (places (subst (λ (x : ℕ × ℕ). x.1 ≡ 0 → ⊥) is some)))
+    where
+      places : ((within n ends).1 ≡ 0 → ⊥) → 0 < n
+      places more = grind (arith, more)
+
+  pub opens-front : (k m l : Caller L) {at o p : ℕ} (value : T) → at < n → o ≡ queue.cells.first →
+      p ≡ queue.cells.first + 1 + at → Opens holds false o k m → Opens holds false p m l →
+      OpensToFront found queue holds (Some value) k l
+  opens-front k m l {at = at} value inside o_is p_is first second =
+      (at, inside, (m, at-object false k m o_is first, (l, at-object false m l p_is second, refl)))
+
+  pub opens-place : (writes : Bool) (k m l e : Caller L) {at o p q : ℕ} → at < n → o ≡ queue.cells.first →
+      p ≡ queue.cells.first + 1 + at → q ≡ queue.cells.first → Opens holds false o k m → Opens holds writes p m l →
+      Opens holds true q l e → OpensPlace found queue holds writes k e
+  opens-place writes k m l e {at = at} inside o_is p_is q_is first second third = (
+    at,
+    inside,
+    (m, at-object false k m o_is first, (l, at-object writes m l p_is second, (e, at-object true l e q_is third, refl))),
+  )
+
+  -- ---- what is done
 
   -- the place of the first value and how many there are were looked up
   pub record Looks (old new : Caller L) (place : ℕ × ℕ) (map : List Val) : Type 0 where

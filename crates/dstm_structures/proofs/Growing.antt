@@ -22,9 +22,10 @@ gains_by : {cells : Rows} {key at cell under bits number p j q low_link high_lin
     Has at key (fork p j q low high) → ((a k : ℕ) → Has a k t → Has a k (fork p j q low high)) →
     ((a k : ℕ) → Has a k (fork p j q low high) → Has a k t ⊎ ((a ≡ at) × (k ≡ key))) →
     ((c : ℕ) → Uses c (fork p j q low high) → Uses c t ⊎ (c ≡ cell)) →
+    ((c : ℕ) → Uses c t ⊎ (c ≡ cell) → Uses c (fork p j q low high)) →
     ((c : ℕ) → (Uses c t → ⊥) → (c ≡ cell → ⊥) → words_at cells after c ≡ words_at cells before c) →
     Gains cells key at cell under bits number t before after
-gains_by {p = p} {j = j} {q = q} low high tells is inside low_is high_is near far below there kept no_more uses stays =
+gains_by {p = p} {j = j} {q = q} low high tells is inside low_is high_is near far below there kept no_more uses used stays =
     record {
       grown = fork p j q low high;
       is = is;
@@ -37,11 +38,7 @@ gains_by {p = p} {j = j} {q = q} low high tells is inside low_is high_is near fa
         near,
         far,
       );
-      below = below;
-      there = there;
-      kept = kept;
-      no_more = no_more;
-      uses = uses;
+      more = record { below = below; there = there; kept = kept; no_more = no_more; uses = uses; used = used };
       stays = stays;
     }
 
@@ -64,7 +61,7 @@ module _ (cells : Rows) (key at cell under bits number p j q link : ℕ) (l r : 
       TellsFork p j q link (link_to r) (words_at cells after) → Gains cells key at cell under bits number t before after
   gains_left g tells =
       gains_by g.grown r tells is held.0 g.is refl near far (b.0, b.1, g.below, b.3) (inl g.there) (λ a k has. kept a k has)
-      (λ a k has. no_more a k has) (λ c used. uses c used)
+      (λ a k has. no_more a k has) (λ c used. uses c used) (λ c stood. used c stood)
       (λ c off away. others c (λ e. off (inl e)) ∙ g.stays c (λ used. off (inr (inl used))) away)
     where
       apart : 2 * q ≡ 2 * q + 1 → ⊥
@@ -95,12 +92,18 @@ module _ (cells : Rows) (key at cell under bits number p j q link : ℕ) (l r : 
       uses c (inr (inl used)) = or_new (g.uses c used) (λ had. inr (inl had))
       uses c (inr (inr used)) = inl (inr (inr used))
 
+      used : (c : ℕ) → Uses c t ⊎ (c ≡ cell) → Uses c (fork p j q g.grown r)
+      used c (inl (inl e)) = inl e
+      used c (inl (inr (inl stood))) = inr (inl (g.used c (inl stood)))
+      used c (inl (inr (inr stood))) = inr (inr stood)
+      used c (inr e) = inr (inl (g.used c (inr e)))
+
   -- on its right side
   pub gains_right : Gains cells key at cell j (2 * q + 1) link r before mid →
       TellsFork p j q (link_to l) link (words_at cells after) → Gains cells key at cell under bits number t before after
   gains_right g tells =
       gains_by l g.grown tells is held.0 refl g.is far near (b.0, b.1, b.2, g.below) (inr g.there) (λ a k has. kept a k has)
-      (λ a k has. no_more a k has) (λ c used. uses c used)
+      (λ a k has. no_more a k has) (λ c used. uses c used) (λ c stood. used c stood)
       (λ c off away. others c (λ e. off (inl e)) ∙ g.stays c (λ used. off (inr (inr used))) away)
     where
       apart : 2 * q + 1 ≡ 2 * q → ⊥
@@ -131,6 +134,12 @@ module _ (cells : Rows) (key at cell under bits number p j q link : ℕ) (l r : 
       uses c (inr (inl used)) = inl (inr (inl used))
       uses c (inr (inr used)) = or_new (g.uses c used) (λ had. inr (inr had))
 
+      used : (c : ℕ) → Uses c t ⊎ (c ≡ cell) → Uses c (fork p j q l g.grown)
+      used c (inl (inl e)) = inl e
+      used c (inl (inr (inl stood))) = inr (inl stood)
+      used c (inl (inr (inr stood))) = inr (inr (g.used c (inl stood)))
+      used c (inr e) = inr (inr (g.used c (inr e)))
+
 -- A new fork over a tip and a trie whose keys differ from it first at a level.
 module _ (cells : Rows) (key at cell under bits h ours theirs : ℕ) (t : Trie) (before after : List Val)
     (held : HoldsIn cells.first cells.capacity before t) (b : Below h theirs t) (inside : at < cells.capacity)
@@ -157,7 +166,7 @@ module _ (cells : Rows) (key at cell under bits h ours theirs : ℕ) (t : Trie) 
       let parts = even_less ours theirs alike first in
       gains_by (tip at key) t tells refl within refl refl (inside, same at inside ∙ told_key) still
       (less, stands, ours_is ∙ parts.0, subst (λ (x : ℕ). Below h x t) parts.1 b) (inl (refl, refl)) (λ p k has. inr has)
-      (λ p k has. no_more p k has) (λ c used. uses c used) (λ c off away. others c away)
+      (λ p k has. no_more p k has) (λ c used. uses c used) (λ c stood. used c stood) (λ c off away. others c away)
     where
       no_more : (p k : ℕ) → Has p k (fork cell h (ours / 2) (tip at key) t) → Has p k t ⊎ ((p ≡ at) × (k ≡ key))
       no_more p k (inl has) = inr (sym has.0, sym has.1)
@@ -168,6 +177,10 @@ module _ (cells : Rows) (key at cell under bits h ours theirs : ℕ) (t : Trie) 
       uses c (inr (inl used)) = absurd used
       uses c (inr (inr used)) = inl used
 
+      used : (c : ℕ) → Uses c t ⊎ (c ≡ cell) → Uses c (fork cell h (ours / 2) (tip at key) t)
+      used c (inl stood) = inr (inr stood)
+      used c (inr e) = inl e
+
   pub gains_behind : theirs < ours → TellsFork cell h (ours / 2) (link_to t) (2 * at + 1) (words_at cells after) →
       Gains cells key at cell under bits (2 * cell + 2) t before after
   gains_behind first tells =
@@ -175,7 +188,8 @@ module _ (cells : Rows) (key at cell under bits h ours theirs : ℕ) (t : Trie) 
       let low = subst (λ (x : ℕ). Below h x t) (parts.0 ∙ ap (λ (x : ℕ). 2 * x) (sym alike)) b in
       let high = ours_is ∙ parts.1 ∙ ap (λ (x : ℕ). 2 * x + 1) (sym alike) in
       gains_by t (tip at key) tells refl within refl refl still (inside, same at inside ∙ told_key) (less, stands, low, high)
-      (inr (refl, refl)) (λ p k has. inl has) (λ p k has. no_more p k has) (λ c used. uses c used) (λ c off away. others c away)
+      (inr (refl, refl)) (λ p k has. inl has) (λ p k has. no_more p k has) (λ c used. uses c used) (λ c stood. used c stood)
+      (λ c off away. others c away)
     where
       no_more : (p k : ℕ) → Has p k (fork cell h (ours / 2) t (tip at key)) → Has p k t ⊎ ((p ≡ at) × (k ≡ key))
       no_more p k (inl has) = inl has
@@ -185,3 +199,7 @@ module _ (cells : Rows) (key at cell under bits h ours theirs : ℕ) (t : Trie) 
       uses c (inl e) = inr e
       uses c (inr (inl used)) = inl used
       uses c (inr (inr used)) = absurd used
+
+      used : (c : ℕ) → Uses c t ⊎ (c ≡ cell) → Uses c (fork cell h (ours / 2) t (tip at key))
+      used c (inl stood) = inr (inl stood)
+      used c (inr e) = inl e

@@ -7,6 +7,7 @@ use Rattle.dstm_structures.specs.Places.{is_key}
 use Rattle.dstm_structures.specs.Maps.{at_place, item_of, key_of, keys_in, place_in, reach_of, values_in}
 use Rattle.dstm_structures.specs.Ordered.{IsEnd, IsFirst, IsFirstAbove, IsInOrder, IsLast, Looks, TellsAbove, TellsEnd, TellsInOrder, entry_at, entry_of}
 use Rattle.dstm_structures.specs.Orders.{Trie, tip, fork, Has, EndsAll, FollowsAll, Holds, IsBare, IsEdge, IsNext, IsOrdered, IsOrderedBy, forks_in, left_in, level_in, low_of, order_end, right_in, root_in, words_of}
+use Rattle.dstm_structures.specs.Tips.{WastesNoFork}
 use Rattle.dstm_structures.specs.declared.ordered.OrderedMap.{OrderedMap}
 use Rattle.dstm_structures.proofs.Maps.{place-holds, place-kept}
 use Rattle.dstm_structures.proofs.Places.{none_not}
@@ -33,42 +34,62 @@ module _ (first n : ℕ) (some : 0 < n) where
   pub record SamePlaces (before after : List Val) : Type 0 where
     pub places : (k : ℕ) → place_in first n after k ≡ place_in first n before k
 
-  -- where roots, forks and places are the same, cells that were in order are
-  pub order-kept : (before after : List Val) → root_in first n after ≡ root_in first n before →
-      ((p : ℕ) → p < n → forks_in first n after p ≡ forks_in first n before p) →
-      ((k : ℕ) → place_in first n after k ≡ place_in first n before k) →
-      IsOrdered first n before → IsOrdered first n after
-  order-kept before after root forks places (inl bare) =
-      inl (record { root = root ∙ bare.root; none = λ k. places k ∙ bare.none k })
-  order-kept before after root forks places (inr (t, by)) =
-      inr (
-        t,
-        record {
-          root = root ∙ by.root;
-          held =
-              holds-by n (keys_in first before) (keys_in first after) (forks_in first n before) (forks_in first n after)
-              forks t (λ a k h. (place-holds first n some after k a (places k ∙ by.there a k h)).0) by.held;
-          split = by.split;
-          there = λ a k h. places k ∙ by.there a k h;
-          all = λ a k at. by.all a k (sym (places k) ∙ at);
-        },
-      )
+  -- where roots, forks and places are the same
+  module _ (before after : List Val) (root : root_in first n after ≡ root_in first n before)
+      (forks : (p : ℕ) → p < n → forks_in first n after p ≡ forks_in first n before p)
+      (places : (k : ℕ) → place_in first n after k ≡ place_in first n before k) where
+    bare-kept : IsBare first n before → IsBare first n after
+    bare-kept bare = record { root = root ∙ bare.root; none = λ k. places k ∙ bare.none k }
+
+    trie-kept : (t : Trie) → IsOrderedBy first n t before → IsOrderedBy first n t after
+    trie-kept t by = record {
+      root = root ∙ by.root;
+      held =
+          holds-by n (keys_in first before) (keys_in first after) (forks_in first n before) (forks_in first n after)
+          forks t (λ a k h. (place-holds first n some after k a (places k ∙ by.there a k h)).0) by.held;
+      split = by.split;
+      there = λ a k h. places k ∙ by.there a k h;
+      all = λ a k at. by.all a k (sym (places k) ∙ at);
+    }
+
+    -- cells that were in order are
+    pub order-kept : IsOrdered first n before → IsOrdered first n after
+    order-kept (inl bare) = inl (bare-kept bare)
+    order-kept (inr (t, by)) = inr (t, trie-kept t by)
+
+    free-kept : (c : ℕ) → c < n → (forks_in first n before c).1 ≡ 0 → (forks_in first n after c).1 ≡ 0
+    free-kept c here free = ap (λ (w : ℕ × ℕ). w.1) (forks c here) ∙ free
+
+    -- and cells that waste no fork waste none
+    pub forks-kept : WastesNoFork first n before → WastesNoFork first n after
+    forks-kept (inl (bare, free)) = inl (bare-kept bare, λ c here. free-kept c here (free c here))
+    forks-kept (inr (t, by, free)) = inr (t, trie-kept t by, λ c here off. free-kept c here (free c here off))
 
   -- where a change sets nothing of the order, and no cell that tells keys or how far they are looked for
-  pub order-apart : {V : Type 0} (found : Val → V) (before after : List Val) →
-      ((o : ℕ) → first ≤ o → o < first + 3 * n + 1 → ((q : ℕ) → q < n → o ≡ first + 2 * q + 1 → ⊥) →
-      value_at after o ≡ value_at before o) → IsOrdered first n before → IsOrdered first n after
-  order-apart found before after same order =
-      order-kept before after
-      (ap low_of (same (first + 2 * n) (omega arith) (omega (arith, some)) (λ q below e. omega (arith, e))))
-      (λ p here. ap words_of
-      (same (first + 2 * n + 1 + p) (omega arith) (omega (arith, here)) (λ q below e. omega (arith, e, below))))
-      (λ k. place-kept found first n some before after k
-      (λ q below. ap (λ (v : Val). is_key k (key_of v))
-      (same (first + 2 * q) (omega arith) (omega (arith, below)) (λ p here e. omega (arith, e))))
-      (λ h below. ap (λ (v : Val). cond (nat_lt (reach_of v) n) (reach_of v) n)
-      (same (first + 2 * h) (omega arith) (omega (arith, below)) (λ p here e. omega (arith, e)))))
-      order
+  module _ {V : Type 0} (found : Val → V) (before after : List Val)
+      (same : (o : ℕ) → first ≤ o → o < first + 3 * n + 1 → ((q : ℕ) → q < n → o ≡ first + 2 * q + 1 → ⊥) →
+      value_at after o ≡ value_at before o) where
+    root-apart : root_in first n after ≡ root_in first n before
+    root-apart = ap low_of (same (first + 2 * n) (omega arith) (omega (arith, some)) (λ q below e. omega (arith, e)))
+
+    forks-same : (p : ℕ) → p < n → forks_in first n after p ≡ forks_in first n before p
+    forks-same p here =
+        ap words_of
+        (same (first + 2 * n + 1 + p) (omega arith) (omega (arith, here)) (λ q below e. omega (arith, e, below)))
+
+    places-same : (k : ℕ) → place_in first n after k ≡ place_in first n before k
+    places-same k =
+        place-kept found first n some before after k
+        (λ q below. ap (λ (v : Val). is_key k (key_of v))
+        (same (first + 2 * q) (omega arith) (omega (arith, below)) (λ p here e. omega (arith, e))))
+        (λ h below. ap (λ (v : Val). cond (nat_lt (reach_of v) n) (reach_of v) n)
+        (same (first + 2 * h) (omega arith) (omega (arith, below)) (λ p here e. omega (arith, e))))
+
+    pub order-apart : IsOrdered first n before → IsOrdered first n after
+    order-apart order = order-kept before after root-apart forks-same places-same order
+
+    pub forks-apart : WastesNoFork first n before → WastesNoFork first n after
+    forks-apart spare = forks-kept before after root-apart forks-same places-same spare
 
 module _ {V : Type 0} (found : Val → V) (map : OrderedMap V) where
   abbrev f : ℕ

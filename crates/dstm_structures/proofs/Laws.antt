@@ -1,9 +1,9 @@
 -- What a program proves of a law over maps and cells: that what is left is lawful, by what the calls have done; and that a map
 -- has what it had where its cells are as they were.
-use Rattle.std.proofs.Common.{◌≡◌, ◌∙◌, ◌⊎◌, inl, inr, ◌==◌, ℕ, ◌+◌, ◌*◌, ◌<◌, ◌≤◌, List, ap, arith, cond, get_or-set_other, get_or-set_same, length, length-append, length-set, nat_lt, subst}
+use Rattle.std.proofs.Common.{◌≡◌, ◌∙◌, ◌⊎◌, inl, inr, ◌==◌, ℕ, ◌+◌, ◌*◌, ◌<◌, ◌≤◌, false, true, List, ap, arith, cond, get_or-set_other, get_or-set_same, length, length-append, length-set, nat_lt, refl, subst, sym}
 use Rattle.std.proofs.lemmas.Bool.{cases_eq}
 use Rattle.std.proofs.lemmas.List.{get_or_append_left}
-use Rattle.std.specs.Prelude.{Option, None, Some}
+use Rattle.std.specs.Prelude.{Option, None, Some, is_some}
 use Rattle.dstm_model.specs.declared.value.Val.{Val}
 use Rattle.dstm_model.specs.Map.{no_value, value_at}
 use Rattle.dstm_mem.proofs.WithSet.{length-with_set}
@@ -14,12 +14,13 @@ use Rattle.dstm_cells.specs.UnderWay.{Changes, Gets, IsUntouched, Keeps, LeavesL
 use Rattle.dstm_cells.proofs.Found.{lawful_at}
 use Rattle.dstm_structures.specs.Effects.{Does}
 use Rattle.dstm_structures.specs.Laws.{AreApart, times}
-use Rattle.dstm_structures.specs.Maps.{Adds, Makes, end_of, item_of, key_of, reach_of}
+use Rattle.dstm_structures.specs.Maps.{Adds, HasNoRoom, Makes, WastesNone, end_of, item_of, key_at, key_of, place_in, reach_of}
 use Rattle.dstm_structures.specs.Places.{is_key}
 use Rattle.dstm_structures.specs.declared.map.HashMap.{HashMap}
 use Rattle.dstm_structures.proofs.Doing.{Reads, Writes, does-read, does-then, does-thrice, does-wider, does-write}
 use Rattle.dstm_structures.proofs.Effects.{may_length}
 use Rattle.dstm_structures.proofs.Maps.{item-same, place-holds, place-kept}
+use Rattle.dstm_structures.proofs.Places.{none_not}
 
 -- ---- what is left is lawful
 
@@ -103,6 +104,27 @@ module _ {V : Type 0} {found : Val → V} {map : HashMap V} {before after : List
   pub added-length : length after ≡ length before + 2 * map.cells.capacity
   added-length =
       ap (length {A = Val}) adds.behind ∙ length-append before adds.added ∙ ap (λ (x : ℕ). length before + x) adds.count
+
+-- ---- what a map has room for
+
+module _ {V : Type 0} {found : Val → V} {map : HashMap V} where
+  -- a new map wastes no place
+  pub added-wastes-none : {before after : List Val} → Adds found map before after → WastesNone map after
+  added-wastes-none adds at key here held = absurd (none_not key (sym (adds.free at here) ∙ held))
+
+  -- A MAP THAT WASTES NO PLACE has no room only where each place is one at which a key is found
+  pub full-of-keys : {key : ℕ} {before after : List Val} → HasNoRoom found map key before after → WastesNone map before →
+      (at : ℕ) → at < map.cells.capacity →
+      (held : ℕ) × (place_in map.cells.first map.cells.capacity before held ≡ Some at)
+  full-of-keys {before = before} none wastes at here = by (key_at map before at) refl
+    where
+      never : false ≡ true → ⊥
+      never e = cc
+
+      by : (o : Option ℕ) → key_at map before at ≡ o →
+          (held : ℕ) × (place_in map.cells.first map.cells.capacity before held ≡ Some at)
+      by None is = absurd (never (sym (ap is_some is) ∙ none.full at here))
+      by (Some held) is = (held, wastes at held here is)
 
 -- ---- what a map has
 

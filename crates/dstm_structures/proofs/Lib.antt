@@ -1,15 +1,16 @@
 pub mod Circles
+pub mod Counting
 pub mod Doing
 pub mod Dropping
 pub mod Effects
 pub mod Forks
 pub mod Growing
+pub mod Heights
 pub mod Items
 pub mod Looking
 pub mod Losing
 pub mod Mapping
 pub mod Maps
-pub mod Noting
 pub mod InOrder
 pub mod Laws
 pub mod Ordering

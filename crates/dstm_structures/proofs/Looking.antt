@@ -1,52 +1,48 @@
--- Looks by an attempt: what one leaves, and what a call does that was found out by looks alone.
+-- Looks by a transaction under way: what one leaves, and what a call does that was found out by looks alone.
 use Rattle.std.proofs.Common.{◌≡◌, ◌∙◌, ℕ, List, ap, refl, subst, sym}
+use Rattle.dstm_model.specs.declared.value.Law.{Ghosts}
 use Rattle.dstm_model.specs.declared.value.Val.{Val}
 use Rattle.dstm_model.specs.Map.{value_at}
+use Rattle.dstm_tables.specs.declared.tables.Caller.{Caller}
 use Rattle.dstm_attempts.specs.Attempts.{SetsNothing}
-use Rattle.dstm_cells.specs.Alternatives.{Notes, Noting}
 use Rattle.dstm_cells.specs.UnderWay.{Gets, StopsLook, seen}
 use Rattle.dstm_cells.specs.declared.error.Why.{Why}
 use Rattle.dstm_cells.specs.declared.error.Why.TheVariants.{Again, Retry, Foreign, Memory}
-use Rattle.dstm_structures.specs.Effects.{Does}
-use Rattle.dstm_structures.specs.Looks.{GoesOn, Shows, StandsAt}
-use Rattle.dstm_structures.proofs.Noting.{notes_still, notes_twice}
+use Rattle.dstm_cells.specs.declared.under_way.Tx.{Tx}
+use Rattle.dstm_structures.specs.Effects.{Does, GoesOn}
+use Rattle.dstm_structures.specs.Looks.{OnlyLooks, Shows, StandsAt}
 
-module _ {L : Type 0} {holds : L → List Val → Type 0} where
-  -- ---- one look
+-- ---- one look
 
-  module _ {k n : Noting L} (notes : Notes holds k n) where
-    look-on : SetsNothing holds k.caller n.caller → GoesOn holds k n
-    look-on unset = record {
-      keeps = notes.keeps;
-      unset = unset;
-      notes = λ first noted. notes_twice noted notes;
-    }
+pub look-is : {L T : Type 0} {ghosts : Ghosts L} {holds : L → List Val → Type 0} {found : Val → T} {k : Caller L} {o : ℕ}
+    {value : T} (n : Tx L ghosts) → Gets holds found k n.attempts.caller o value →
+    Shows (StandsAt holds) (λ values. value ≡ found (value_at values o)) n
+look-is {found = found} {o = o} n g map values at =
+    g.is ∙ ap found (sym (g.finds.value map at.0) ∙ ap (λ (xs : List Val). value_at xs o) at.1)
 
-    pub look-stops : (o : ℕ) (why : Why) → StopsLook holds o k.caller n.caller why → GoesOn holds k n
+module _ {L : Type 0} {ghosts : Ghosts L} {holds : L → List Val → Type 0} {k n : Tx L ghosts} where
+  module _ (goes : GoesOn holds k n) where
+    look-on : SetsNothing holds k.attempts.caller n.attempts.caller → OnlyLooks holds k n
+    look-on unset = record { goes = goes; unset = unset }
+
+    pub look-stops : (o : ℕ) (why : Why) → StopsLook holds o k.attempts.caller n.attempts.caller why → OnlyLooks holds k n
     look-stops o Again s = look-on s.unset
     look-stops o Retry s = absurd s
     look-stops o Foreign s = look-on s.unset
     look-stops o Memory s = absurd s
 
-    module _ {o : ℕ} {T : Type 0} {found : Val → T} {value : T} (g : Gets holds found k.caller n.caller o value) where
-      pub look-goes : GoesOn holds k n
-      look-goes = look-on (record { narrows = g.finds.narrows; same = g.finds.same })
-
-      pub look-is : Shows (StandsAt holds) (λ values. value ≡ found (value_at values o)) n
-      look-is map values at =
-          g.is ∙ ap found (sym (g.finds.value map at.0) ∙ ap (λ (xs : List Val). value_at xs o) at.1)
+    pub look-goes : {o : ℕ} {T : Type 0} {found : Val → T} {value : T} →
+        Gets holds found k.attempts.caller n.attempts.caller o value → OnlyLooks holds k n
+    look-goes g = look-on (record { narrows = g.finds.narrows; same = g.finds.same })
 
   -- ---- a call
 
-  pub goes-notes : {k n : Noting L} → GoesOn holds k n → Notes holds k n
-  goes-notes {k} goes = goes.notes k notes_still
-
   -- what a call does that was found out by looks alone
-  pub does-shown : {size : ℕ} (E : List Val → List Val → Type 0) {k n : Noting L} → GoesOn holds k n →
-      Shows (StandsAt holds) (λ values. E values values) n → Does holds size E k.caller n.caller
-  does-shown E {k} {n} goes shows = record {
-    narrows = goes.unset.narrows;
+  pub does-shown : {size : ℕ} (E : List Val → List Val → Type 0) → OnlyLooks holds k n →
+      Shows (StandsAt holds) (λ values. E values values) n → Does holds size E k.attempts.caller n.attempts.caller
+  does-shown E looks shows = record {
+    narrows = looks.unset.narrows;
     does = λ there map may.
-        subst (λ (xs : List Val). E xs (seen n.caller map)) (goes.unset.same map)
-        (shows map (seen n.caller map) (may, refl));
+        subst (λ (xs : List Val). E xs (seen n.attempts.caller map)) (looks.unset.same map)
+        (shows map (seen n.attempts.caller map) (may, refl));
   }

@@ -7,14 +7,15 @@ use Rattle.dstm_model.specs.declared.value.Val.{Val}
 use Rattle.dstm_model.specs.Map.{no_value, value_at}
 use Rattle.dstm_structures.specs.Circles.{behind}
 use Rattle.dstm_structures.specs.Places.{AreTaken, find, is_free, is_key}
-use Rattle.dstm_structures.specs.Maps.{Adds, Clears, ClearsAll, Empties, FreeAt, Frees, Inserts, InsertsAt, InsertsBy, Makes, NoneFree, Puts, Reaches, Seeks, SetsKey, SetsReach, Stores, Tells, TellsIf, at_place, end_of, home_in, homes, item_of, key_at, key_of, keys_in, outcome, place_in, reach_at, reach_of, slot_of, values_in}
+use Rattle.dstm_structures.specs.Added.{AddsCells}
+use Rattle.dstm_structures.specs.Maps.{Adds, Clears, ClearsAll, Empties, FreeAt, Frees, Inserts, InsertsAt, InsertsBy, Makes, NoneFree, Puts, Reaches, Seeks, SetsKey, SetsReach, Stores, Tells, TellsIf, WastesNone, at_place, end_of, home_in, homes, item_of, key_at, key_of, keys_in, outcome, place_in, reach_at, reach_of, slot_of, values_in}
 use Rattle.dstm_structures.specs.declared.cells.Slot.{Slot}
 use Rattle.dstm_structures.specs.declared.map.HashMap.{HashMap}
 use Rattle.dstm_structures.specs.declared.map.Placed.{Placed}
 use Rattle.dstm_structures.specs.declared.map.Placed.TheVariants.{Instead}
 use Rattle.dstm_structures.proofs.Doing.{Reads, Writes}
 use Rattle.dstm_structures.proofs.Maps.{added-apart, added-here, added-other, added-there, home-within, item-same, place-kept, removed-here, replaced-here, replaced-other}
-use Rattle.dstm_structures.proofs.Places.{behind-below, distance, is_key-apart, key_is}
+use Rattle.dstm_structures.proofs.Places.{behind-below, distance, find-where, is_key-apart, is_key-same, key_is, none_not, some_is}
 
 -- what the first cell of a place tells was read, and so its key
 pub reads-key : {cell : ℕ} {slot : Slot} {before after : List Val} → Reads slot_of cell slot before after →
@@ -182,15 +183,15 @@ module _ {V : Type 0} (map : HashMap V) where
         ap (λ (xs : List Val). value_at xs x) slot-whole
         ∙ get_or-set_other before (first + 2 * at) x writes.kept no_value apart
 
-    pub sets-key : (key : Option ℕ) → now.key ≡ key → now.reach ≡ had.reach → SetsKey map at key before after
-    sets-key key key_is reach_is = record {
-      is = ap (λ (s : Slot). s.key) slot-is ∙ key_is;
+    pub sets-key : (key : Option ℕ) → now ≡ record had { key = key } → SetsKey map at key before after
+    sets-key key is = record {
+      is = ap (λ (s : Slot). s.key) (slot-is ∙ is);
       reaches = λ h. by h (cases_eq h at);
       others = slot-others;
     }
       where
         top : reach_of (value_at after (first + 2 * at)) ≡ reach_of (value_at before (first + 2 * at))
-        top = ap (λ (s : Slot). s.reach) slot-is ∙ reach_is ∙ ap (λ (s : Slot). s.reach) slot-was
+        top = ap (λ (s : Slot). s.reach) (slot-is ∙ is) ∙ ap (λ (s : Slot). s.reach) slot-was
 
         by : (h : ℕ) → (h ≡ at) ⊎ (h ≡ at → ⊥) → reach_at map after h ≡ reach_at map before h
         by h (inl same) =
@@ -199,10 +200,10 @@ module _ {V : Type 0} (map : HashMap V) where
             ap (λ (v : Val). cond (nat_lt (reach_of v) n) (reach_of v) n)
             (slot-others (first + 2 * h) (λ e. apart (omega (arith, e))))
 
-    pub sets-reach : (far : ℕ) → far ≤ n → now.reach ≡ far → now.key ≡ had.key → SetsReach map at far before after
-    sets-reach far most reach_is key_is = record {
-      is = ap (λ (x : ℕ). cond (nat_lt x n) x n) (ap (λ (s : Slot). s.reach) slot-is ∙ reach_is) ∙ all far most;
-      key = ap (λ (s : Slot). s.key) slot-is ∙ key_is ∙ ap (λ (s : Slot). s.key) slot-was;
+    pub sets-reach : (far : ℕ) → far ≤ n → now ≡ record had { reach = far } → SetsReach map at far before after
+    sets-reach far most is = record {
+      is = ap (λ (s : Slot). cond (nat_lt s.reach n) s.reach n) (slot-is ∙ is) ∙ all far most;
+      key = ap (λ (s : Slot). s.key) (slot-is ∙ is) ∙ ap (λ (s : Slot). s.key) slot-was;
       others = slot-others;
     }
       where
@@ -249,6 +250,7 @@ module _ {V : Type 0} (map : HashMap V) where
     clears = record {
       gone = λ j below. absurd (omega (arith, below));
       keys = λ k at apart. ap (λ (xs : List Val). is_key k (key_at map xs at)) r.same;
+      less = λ at. inr (ap (λ (xs : List Val). key_at map xs at) r.same);
       reaches = λ home. ap (λ (xs : List Val). reach_at map xs home) r.same;
       others = λ o out. ap (λ (xs : List Val). value_at xs o) r.same;
     };
@@ -259,6 +261,7 @@ module _ {V : Type 0} (map : HashMap V) where
   clear-end key reach passed before after end c = record {
     gone = λ j below. c.clears.gone j (omega (arith, below, end, c.is));
     keys = c.clears.keys;
+    less = c.clears.less;
     reaches = c.clears.reaches;
     others = c.clears.others;
   }
@@ -270,11 +273,19 @@ module _ {V : Type 0} (map : HashMap V) where
     clears = record {
       gone = λ j below. each j below (cases_eq (behind n (homes map key) j) at);
       keys = λ k p apart. e.keys k p apart ∙ c.clears.keys k p apart;
+      less = λ p. fewer p (e.less p) (c.clears.less p);
       reaches = λ home. e.reaches home ∙ c.clears.reaches home;
       others = λ o out. e.others o (out at here) ∙ c.clears.others o out;
     };
   }
     where
+      fewer : (p : ℕ) → (key_at map after p ≡ None) ⊎ (key_at map after p ≡ key_at map mid p) →
+          (key_at map mid p ≡ None) ⊎ (key_at map mid p ≡ key_at map before p) →
+          (key_at map after p ≡ None) ⊎ (key_at map after p ≡ key_at map before p)
+      fewer p (inl none) was = inl none
+      fewer p (inr same) (inl none) = inl (same ∙ none)
+      fewer p (inr same) (inr stays) = inr (same ∙ stays)
+
       each : (j : ℕ) → j < passed + 1 → (behind n (homes map key) j ≡ at) ⊎ (behind n (homes map key) j ≡ at → ⊥) →
           is_key key (key_at map after (behind n (homes map key) j)) ≡ false
       each j below (inl same) = ap (λ (x : ℕ). is_key key (key_at map after x)) same ∙ e.gone
@@ -291,6 +302,7 @@ module _ {V : Type 0} (map : HashMap V) where
     gone = ap (λ (xs : List Val). is_key key (key_at map xs at)) reads.same
         ∙ ap (is_key key) (sym (key_read at o held before before after o_is refl reads)) ∙ other;
     keys = λ k p apart. ap (λ (xs : List Val). is_key k (key_at map xs p)) reads.same;
+    less = λ p. inr (ap (λ (xs : List Val). key_at map xs p) reads.same);
     reaches = λ home. ap (λ (xs : List Val). reach_at map xs home) reads.same;
     others = λ x apart. ap (λ (xs : List Val). value_at xs x) reads.same;
   }
@@ -301,12 +313,18 @@ module _ {V : Type 0} (map : HashMap V) where
   empties-some at key o held before mid after o_is it reads sets = record {
     gone = ap (is_key key) sets.is;
     keys = λ k x apart. other k x apart (cases_eq x at);
+    less = λ x. fewer x (cases_eq x at);
     reaches = λ home. sets.reaches home ∙ ap (λ (xs : List Val). reach_at map xs home) reads.same;
     others = kept;
   }
     where
       kept : (x : ℕ) → (x ≡ first + 2 * at → ⊥) → value_at after x ≡ value_at before x
       kept x apart = sets.others x apart ∙ ap (λ (xs : List Val). value_at xs x) reads.same
+
+      fewer : (x : ℕ) → (x ≡ at) ⊎ (x ≡ at → ⊥) →
+          (key_at map after x ≡ None) ⊎ (key_at map after x ≡ key_at map before x)
+      fewer x (inl same) = inl (ap (key_at map after) same ∙ sets.is)
+      fewer x (inr away) = inr (ap key_of (kept (first + 2 * x) (λ e. away (omega (arith, e)))))
 
       other : (k x : ℕ) → (k ≡ key → ⊥) → (x ≡ at) ⊎ (x ≡ at → ⊥) →
           is_key k (key_at map after x) ≡ is_key k (key_at map before x)
@@ -319,6 +337,16 @@ module _ {V : Type 0} (map : HashMap V) where
           ap (λ (v : Val). is_key k (key_of v)) (kept (first + 2 * x) (λ e. away (omega (arith, e))))
 
 -- ---- what the calls do
+
+-- cells are made, each of which holds this
+pub made-cells : {number many : ℕ} {before after : List Val} (cells : ℕ) (kept : Val) →
+    after ≡ before ++ replicate cells kept → number ≡ length before → cells ≡ many → AddsCells number many before after
+made-cells cells kept whole start count = record {
+  added = replicate cells kept;
+  behind = whole;
+  first = start;
+  count = length-replicate cells kept ∙ count;
+}
 
 module _ {V : Type 0} (found : Val → V) (map : HashMap V) where
   abbrev f : ℕ
@@ -404,6 +432,9 @@ module _ {V : Type 0} (found : Val → V) (map : HashMap V) where
         others = λ k apart. replaced-other found f m some before after key gap k apart s.is (place k)
             (λ q below away. ap found (kept (f + 2 * q + 1) (λ e. away (omega (arith, e)))));
         around = λ x out. beside x out kept;
+        wastes = λ none q k inside held.
+            place k
+            ∙ none q k inside (sym (ap key_of (kept (f + 2 * q) (λ e. omega (arith, e)))) ∙ held);
       }
     where
       beside : (x : ℕ) → (x < f) ⊎ (f + 2 * m ≤ x) →
@@ -461,11 +492,10 @@ module _ {V : Type 0} (found : Val → V) (map : HashMap V) where
       others = λ k apart. added-other found f m some before after key i value few absent free.free free.taken there others far
           as_far is values k apart;
       around = λ x out. beside x out;
+      wastes = λ none at k here held. stands none at k here held (cases_eq at p);
     };
-    there = added-there found f m some before after key i value few absent free.free free.taken there others far as_far is
-        values;
-    places = λ k apart. added-apart found f m some before after key i value few absent free.free free.taken there others far
-        as_far is values k apart;
+    there = stands-here;
+    places = stands-apart;
   }
     where
       h : ℕ
@@ -523,6 +553,24 @@ module _ {V : Type 0} (found : Val → V) (map : HashMap V) where
           kept x (λ same. omega (arith, same, high, place)) (λ same. omega (arith, same, high, place))
           (λ same. omega (arith, same, high, homed))
 
+      stands-here : place_in f m after key ≡ Some p
+      stands-here =
+          added-there found f m some before after key i value few absent free.free free.taken there others far as_far is values
+
+      stands-apart : (k : ℕ) → (k ≡ key → ⊥) → place_in f m after k ≡ place_in f m before k
+      stands-apart k apart =
+          added-apart found f m some before after key i value few absent free.free free.taken there others far as_far is values k
+          apart
+
+      stands : WastesNone map before → (at k : ℕ) → at < m → keys_in f after at ≡ Some k → (at ≡ p) ⊎ (at ≡ p → ⊥) →
+          place_in f m after k ≡ Some at
+      stands none at k here held (inl same) =
+          let it : key ≡ k = some_is key k (sym there ∙ ap (keys_in f after) (sym same) ∙ held) in
+          ap (place_in f m after) (sym it) ∙ stands-here ∙ ap Some (sym same)
+      stands none at k here held (inr apart) =
+          let was : place_in f m before k ≡ Some at = none at k here (sym (others at here apart) ∙ held) in
+          stands-apart k (λ e. none_not at (sym absent ∙ ap (place_in f m before) (sym e) ∙ was)) ∙ was
+
   -- it was put into the first place that is free for keys of its home, which are looked for at so many places
   pub record Storing (key h reach passed at : ℕ) (value : V) (before after : List Val) : Type 0 where
     pub reaches : reach ≡ reach_at map before h
@@ -574,8 +622,28 @@ module _ {V : Type 0} (found : Val → V) (map : HashMap V) where
         (place-kept found f m some before after k (λ q below. c.keys k q apart) (λ h below. c.reaches h))
         (λ q there. ap found (c.others (f + 2 * q + 1) (λ at here e. omega (arith, e))));
     around = λ x out. beside x out;
+    wastes = λ none at k here held. stands none at k here held (c.less at) (cases_eq k key);
   }
     where
+      never : true ≡ false → ⊥
+      never e = cc
+
+      stands : WastesNone map before → (at k : ℕ) → at < m → key_at map after at ≡ Some k →
+          (key_at map after at ≡ None) ⊎ (key_at map after at ≡ key_at map before at) → (k ≡ key) ⊎ (k ≡ key → ⊥) →
+          place_in f m after k ≡ Some at
+      stands none at k here held (inl gone) which = absurd (none_not k (sym gone ∙ held))
+      stands none at k here held (inr same) (inl it) =
+          let it_stays : key_at map after at ≡ Some key = held ∙ ap Some it in
+          let (j, near, is) =
+          find-where m (keys_in f before) key (home_in m key) 0 (reach_at map before (home_in m key)) at
+          (none at key here (sym same ∙ it_stays)) in
+          absurd (never
+          (sym (is_key-same key) ∙ ap (is_key key) (sym it_stays) ∙ ap (λ (x : ℕ). is_key key (key_at map after x)) (sym is)
+          ∙ c.gone j (omega (arith, near))))
+      stands none at k here held (inr same) (inr apart) =
+          place-kept found f m some before after k (λ q below. c.keys k q apart) (λ h below. c.reaches h)
+          ∙ none at k here (sym same ∙ held)
+
       beside : (x : ℕ) → (x < f) ⊎ (f + 2 * m ≤ x) → value_at after x ≡ value_at before x
       beside x (inl low) = c.others x (λ at here e. omega (arith, e, low))
       beside x (inr high) = c.others x (λ at here e. omega (arith, e, high, here))
@@ -624,10 +692,7 @@ module _ {V : Type 0} (found : Val → V) (map : HashMap V) where
   makes cells kept before after whole high start count some =
       let many : 2 * m ≤ cells = omega (arith, count) in
       record {
-        added = replicate cells kept;
-        behind = whole;
-        first = start;
-        count = length-replicate cells kept ∙ count;
+        cells = made-cells cells kept whole start count;
         empty = made-empty cells kept before after whole high start many some;
         free = made-free cells kept before after whole high start many some;
       }

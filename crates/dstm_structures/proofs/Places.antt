@@ -80,6 +80,20 @@ module _ (n : ℕ) (held : ℕ → Option ℕ) (key h : ℕ) where
           )
       by (inr other) later = later (sym (find-later passed left other) ∙ is)
 
+  -- where it is found is one of the places that were looked at
+  pub find-where : (passed left at : ℕ) → find n held key h passed left ≡ Some at →
+      (j : ℕ) × (j < passed + left) × (behind n h j ≡ at)
+  find-where passed zero at is = absurd (none_not at is)
+  find-where passed (suc left) at is =
+      by (decide (is_key key (held (behind n h passed)))) (find-where (passed + 1) left at)
+    where
+      by : (is_key key (held (behind n h passed)) ≡ true) ⊎ (is_key key (held (behind n h passed)) ≡ false) →
+          (find n held key h (passed + 1) left ≡ Some at → (j : ℕ) × (j < passed + 1 + left) × (behind n h j ≡ at)) →
+          (j : ℕ) × (j < passed + suc left) × (behind n h j ≡ at)
+      by (inl it) later = (passed, omega arith, some_is (behind n h passed) at (sym (find-here passed left it) ∙ is))
+      by (inr other) later =
+          let w = later (sym (find-later passed left other) ∙ is) in (w.0, omega (arith, w.1), w.2)
+
   -- where it is not found, no place that was looked at holds it
   pub find-misses : (passed left : ℕ) → find n held key h passed left ≡ None → (j : ℕ) → passed ≤ j → j < passed + left →
       is_key key (held (behind n h j)) ≡ false

@@ -2,25 +2,26 @@
 use Rattle.std.proofs.Common.{◌≡◌, ◌∙◌, ◌++◌, ℕ, ◌+◌, ◌*◌, ◌^◌, ◌<◌, ◌≤◌, List, ap, arith, cond, length, get_or-set_other, refl, sym, subst, ◌⊎◌, inl, inr, nat_lt}
 use Rattle.std.specs.Prelude.{Option, None, Some, replicate}
 use Rattle.std.proofs.lemmas.Bool.{cases_eq}
-use Rattle.std.proofs.lemmas.List.{length-replicate}
 use Rattle.std.proofs.Math.Nat.{div-eq_of_lt}
 use Rattle.dstm_model.specs.declared.value.Val.{Val}
 use Rattle.dstm_model.specs.Map.{no_value, value_at}
 use Rattle.dstm_structures.specs.Places.{is_key}
-use Rattle.dstm_structures.specs.Maps.{ClearsAll, Inserts, InsertsAt, Seeks, Tells, at_place, item_of, key_at, key_of, keys_in, place_in, reach_in, reach_of, values_in}
+use Rattle.dstm_structures.specs.Maps.{ClearsAll, Inserts, InsertsAt, Seeks, Tells, WastesNone, at_place, item_of, key_at, key_of, keys_in, place_in, reach_in, reach_of, values_in}
 use Rattle.dstm_structures.specs.Maps as maps
-use Rattle.dstm_structures.specs.Ordered.{Adding, Adds, IsInOrder, Looks, Makes, Pops, Puts, Removes, Takes, TellsFirst, entry_at, entry_of}
-use Rattle.dstm_structures.specs.Orders.{tip, Has, HoldsIn, IsOrdered, forks_in, low_of, order_end, root_in, words_of}
-use Rattle.dstm_structures.specs.Tips.{AddsKey, DropsKey, FreeFork, Gains, KeepsButOrder, LeavesNone, LeavesRest, Loses, NoFreeFork}
+use Rattle.dstm_structures.specs.Ordered.{Adding, Adds, IsInOrder, Looks, Makes, Pops, Puts, Removes, Takes, TellsFirst, WastesNoFork, entry_at, entry_of}
+use Rattle.dstm_structures.specs.Orders.{Trie, tip, Has, HoldsIn, IsBare, IsOrdered, IsOrderedBy, forks_in, low_of, order_end, root_in, words_of}
+use Rattle.dstm_structures.specs.Tips.{AddsKey, DropsKey, FreeFork, Gains, KeepsButOrder, LeavesNone, LeavesRest, Loses, NoFreeFork, Uses}
 use Rattle.dstm_structures.specs.declared.map.Placed.{Placed}
 use Rattle.dstm_structures.specs.declared.map.Placed.TheVariants.{New, Instead, Full}
 use Rattle.dstm_structures.specs.declared.ordered.OrderedMap.{OrderedMap}
+use Rattle.dstm_structures.proofs.Counting.{not-on-all}
 use Rattle.dstm_structures.proofs.Doing.{Reads, Writes}
-use Rattle.dstm_structures.proofs.Mapping.{made-each, made-empty, made-unplaced, takes-out, tells-some}
+use Rattle.dstm_structures.proofs.Mapping.{made-cells, made-each, made-empty, made-free, made-unplaced, takes-out, tells-some}
 use Rattle.dstm_structures.proofs.Mapping as mapping
 use Rattle.dstm_structures.proofs.Maps.{item-same, place-holds, place-kept}
-use Rattle.dstm_structures.proofs.InOrder.{holds-by, no-place, order-apart}
+use Rattle.dstm_structures.proofs.InOrder.{forks-apart, holds-by, no-place, order-apart}
 use Rattle.dstm_structures.proofs.Places.{none_not, some_is}
+use Rattle.dstm_structures.proofs.Tries.{uses_or_not}
 
 module _ {V : Type 0} (found : Val → V) (map : OrderedMap V) where
   abbrev f : ℕ
@@ -39,16 +40,17 @@ module _ {V : Type 0} (found : Val → V) (map : OrderedMap V) where
   makes cells kept before after whole low high start count =
       let many : 2 * n ≤ cells = omega (arith, count) in
       record {
-        added = replicate cells kept;
-        behind = whole;
-        first = start;
-        count = length-replicate cells kept ∙ count;
+        cells = made-cells cells kept whole start count;
         empty = made-empty found map.map cells kept before after whole high start many some;
         order = inl (record {
           root = ap low_of (made-each found map.map cells kept before after whole high start many some (2 * n) (f + 2 * n)
               (omega (arith, count)) refl) ∙ low;
           none = made-unplaced found map.map cells kept before after whole high start many some;
         });
+        free = made-free found map.map cells kept before after whole high start many some;
+        forks = λ at here. ap (λ (v : Val). (words_of v).1)
+            (made-each found map.map cells kept before after whole high start many some (2 * n + 1 + at) (f + 2 * n + 1 + at)
+            (omega (arith, count, here)) (omega arith)) ∙ high;
       }
 
   -- ---- a value is set
@@ -73,6 +75,8 @@ module _ {V : Type 0} (found : Val → V) (map : OrderedMap V) where
         others = done.others;
         around = λ o out. done.around o (outside o out);
         order = order-apart f n some found before after (λ o from until out. kept o (λ e. out gap here (e ∙ p_is)));
+        wastes = done.wastes;
+        forks = forks-apart f n some found before after (λ o from until out. kept o (λ e. out gap here (e ∙ p_is)));
       }
     where
       kept : (o : ℕ) → (o ≡ p → ⊥) → value_at after o ≡ value_at before o
@@ -94,6 +98,10 @@ module _ {V : Type 0} (found : Val → V) (map : OrderedMap V) where
     items-stay k =
         item-same found f n some before after k (places-stay k)
         (λ q at. ap found (others (f + 2 * q + 1) (inl (omega (arith, (place-holds f n some before k q at).1)))))
+
+    wastes-stay : WastesNone map.map before → WastesNone map.map after
+    wastes-stay none at k here held =
+        places-stay k ∙ none at k here (sym (ap key_of (others (f + 2 * at) (inl (omega (arith, here))))) ∙ held)
 
   -- ---- a key is added
 
@@ -120,57 +128,76 @@ module _ {V : Type 0} (found : Val → V) (map : OrderedMap V) where
     placed-other : (k : ℕ) → (k ≡ key → ⊥) → place_in f n after k ≡ place_in f n before k
     placed-other k apart = places-stay mid after a.others k ∙ put.places k apart
 
-    order-added : IsOrdered f n before → IsOrdered f n after
-    order-added (inl bare) = inr (
-      tip at key,
-      record {
-        root = a.alone (root-stays ∙ bare.root);
-        held = (inside, (place-holds f n some after key at placed-here).0);
-        split = div-eq_of_lt fits;
-        there = λ p k h.
-            subst (λ (x : ℕ). place_in f n after x ≡ Some p) h.1
-            (subst (λ (x : ℕ). place_in f n after key ≡ Some x) h.0 placed-here);
-        all = λ p k place. alone p k place (cases_eq k key);
-      },
-    )
+    -- the first key makes a tip
+    tip-added : IsBare f n before → IsOrderedBy f n (tip at key) after
+    tip-added bare = record {
+      root = a.alone (root-stays ∙ bare.root);
+      held = (inside, (place-holds f n some after key at placed-here).0);
+      split = div-eq_of_lt fits;
+      there = λ p k h.
+          subst (λ (x : ℕ). place_in f n after x ≡ Some p) h.1
+          (subst (λ (x : ℕ). place_in f n after key ≡ Some x) h.0 placed-here);
+      all = λ p k place. alone p k place (cases_eq k key);
+    }
       where
         alone : (p k : ℕ) → place_in f n after k ≡ Some p → (k ≡ key) ⊎ (k ≡ key → ⊥) → Has p k (tip at key)
         alone p k place (inl same) =
             (some_is at p (sym placed-here ∙ ap (place_in f n after) (sym same) ∙ place), sym same)
         alone p k place (inr apart) = absurd (none_not p (sym (bare.none k) ∙ sym (placed-other k apart) ∙ place))
-    order-added (inr (t, o)) = inr (
-      g.grown,
-      record {
-        root = g.is;
-        held = g.held;
-        split = g.below;
-        there = λ p k h. stands p k (g.no_more p k h);
+
+    -- any other one a fork
+    module _ (t : Trie) (o : IsOrderedBy f n t before) where
+      other : (p k : ℕ) → Has p k t → k ≡ key → ⊥
+      other p k h same = none_not p (sym absent ∙ ap (place_in f n before) (sym same) ∙ o.there p k h)
+
+      held-on : HoldsIn f n mid t
+      held-on =
+          holds-by n (keys_in f before) (keys_in f mid) (forks_in f n before) (forks_in f n mid)
+          (λ p below. forks-stay p) t
+          (λ p k h. (place-holds f n some mid k p (put.places k (other p k h) ∙ o.there p k h)).0) o.held
+
+      grows : Gains map.map.cells key at cell 64 0 (root_in f n after) t mid after
+      grows = a.gains t (root-stays ∙ o.root) held-on o.split other here (ap (λ (x : ℕ × ℕ). x.1) (forks-stay cell) ∙ free)
+
+      trie-added : IsOrderedBy f n grows.grown after
+      trie-added = record {
+        root = grows.is;
+        held = grows.held;
+        split = grows.below;
+        there = λ p k h. stands p k (grows.no_more p k h);
         all = λ p k place. has p k place (cases_eq k key);
-      },
+      }
+        where
+          stands : (p k : ℕ) → Has p k t ⊎ ((p ≡ at) × (k ≡ key)) → place_in f n after k ≡ Some p
+          stands p k (inl h) = placed-other k (other p k h) ∙ o.there p k h
+          stands p k (inr is) =
+              ap (place_in f n after) is.1 ∙ placed-here ∙ ap Some (sym is.0)
+
+          has : (p k : ℕ) → place_in f n after k ≡ Some p → (k ≡ key) ⊎ (k ≡ key → ⊥) → Has p k grows.grown
+          has p k place (inl same) =
+              let is : at ≡ p = some_is at p (sym placed-here ∙ ap (place_in f n after) (sym same) ∙ place) in
+              subst (λ (x : ℕ). Has p x grows.grown) (sym same) (subst (λ (x : ℕ). Has x key grows.grown) is grows.there)
+          has p k place (inr apart) = grows.kept p k (o.all p k (sym (placed-other k apart) ∙ place))
+
+      -- a fork on which the trie does not stand then is as it was
+      still-free : ((c : ℕ) → c < n → (Uses c t → ⊥) → (forks_in f n before c).1 ≡ 0) → (c : ℕ) → c < n →
+          (Uses c grows.grown → ⊥) → (forks_in f n after c).1 ≡ 0
+      still-free spare c within off =
+          ap (λ (w : ℕ × ℕ). w.1)
+          (grows.stays c (λ used. off (grows.used c (inl used))) (λ e. off (grows.used c (inr e))) ∙ forks-stay c)
+          ∙ spare c within (λ used. off (grows.used c (inl used)))
+
+    order-added : IsOrdered f n before → IsOrdered f n after
+    order-added (inl bare) = inr (tip at key, tip-added bare)
+    order-added (inr (t, o)) = inr ((grows t o).grown, trie-added t o)
+
+    forks-added : WastesNoFork map before → WastesNoFork map after
+    forks-added (inl (bare, spare)) = inr (
+      tip at key,
+      tip-added bare,
+      λ c within off. ap (λ (w : ℕ × ℕ). w.1) (a.unforked (root-stays ∙ bare.root) c ∙ forks-stay c) ∙ spare c within,
     )
-      where
-        other : (p k : ℕ) → Has p k t → k ≡ key → ⊥
-        other p k h same = none_not p (sym absent ∙ ap (place_in f n before) (sym same) ∙ o.there p k h)
-
-        held : HoldsIn f n mid t
-        held =
-            holds-by n (keys_in f before) (keys_in f mid) (forks_in f n before) (forks_in f n mid)
-            (λ p below. forks-stay p) t
-            (λ p k h. (place-holds f n some mid k p (put.places k (other p k h) ∙ o.there p k h)).0) o.held
-
-        g : Gains map.map.cells key at cell 64 0 (root_in f n after) t mid after
-        g = a.gains t (root-stays ∙ o.root) held o.split other here (ap (λ (x : ℕ × ℕ). x.1) (forks-stay cell) ∙ free)
-
-        stands : (p k : ℕ) → Has p k t ⊎ ((p ≡ at) × (k ≡ key)) → place_in f n after k ≡ Some p
-        stands p k (inl h) = placed-other k (other p k h) ∙ o.there p k h
-        stands p k (inr is) =
-            ap (place_in f n after) is.1 ∙ placed-here ∙ ap Some (sym is.0)
-
-        has : (p k : ℕ) → place_in f n after k ≡ Some p → (k ≡ key) ⊎ (k ≡ key → ⊥) → Has p k g.grown
-        has p k place (inl same) =
-            let is : at ≡ p = some_is at p (sym placed-here ∙ ap (place_in f n after) (sym same) ∙ place) in
-            subst (λ (x : ℕ). Has p x g.grown) (sym same) (subst (λ (x : ℕ). Has x key g.grown) is g.there)
-        has p k place (inr apart) = g.kept p k (o.all p k (sym (placed-other k apart) ∙ place))
+    forks-added (inr (t, o, spare)) = inr ((grows t o).grown, trie-added t o, still-free t o spare)
 
     added : Makes found map key (Some value) None before after
     added = record {
@@ -179,6 +206,8 @@ module _ {V : Type 0} (found : Val → V) (map : OrderedMap V) where
       others = λ k apart. items-stay mid after a.others k ∙ put.makes.others k apart;
       around = λ o out. a.others o (around-order o out) ∙ put.makes.around o (outside o out);
       order = order-added;
+      wastes = λ none. wastes-stay mid after a.others (put.makes.wastes none);
+      forks = forks-added;
     }
 
   pub adds-new : (key at cell : ℕ) (value : V) (before near mid after : List Val) → key < 2 ^ 64 →
@@ -189,12 +218,23 @@ module _ {V : Type 0} (found : Val → V) (map : OrderedMap V) where
       subst (λ (v : List Val). Inserts found map.map key value (Some at) v mid) free.same inserts absent in
       added key at cell value before mid after fits absent free.free put a
 
+  -- where no fork is wasted, one is free
+  never-taken : (values : List Val) → WastesNoFork map values → ((c : ℕ) → c < n → (forks_in f n values c).1 ≡ 0 → ⊥) → ⊥
+  never-taken values (inl (bare, spare)) taken = taken 0 some (spare 0 some)
+  never-taken values (inr (t, o, spare)) taken =
+      not-on-all n (keys_in f values) (forks_in f n values) 64 0 t o.split o.held (λ c within. used c within (uses_or_not c t))
+    where
+      used : (c : ℕ) → c < n → Uses c t ⊎ (Uses c t → ⊥) → Uses c t
+      used c within (inl stood) = stood
+      used c within (inr off) = absurd (taken c within (spare c within off))
+
   -- no fork is free
   pub adds-none : (key : ℕ) (value : V) (before after : List Val) → NoFreeFork map.map.cells before after →
       Adding found map key value Full before after
   adds-none key value before after none absent = record {
     was = ap (at_place (values_in found f before)) absent;
     full = inr none.taken;
+    places = λ spare at within. absurd (never-taken before spare none.taken);
     same = none.same;
   }
 
@@ -203,7 +243,7 @@ module _ {V : Type 0} (found : Val → V) (map : OrderedMap V) where
       Inserts found map.map key value None near after → Adding found map key value Full before after
   adds-full key cell value before near after free inserts absent =
       let told = subst (λ (v : List Val). Inserts found map.map key value None v after) free.same inserts absent in
-      record { was = told.was; full = inl told.full; same = told.same }
+      record { was = told.was; full = inl told.full; places = λ spare. told.full; same = told.same }
 
   -- ---- a key is taken out
 
@@ -229,50 +269,82 @@ module _ {V : Type 0} (found : Val → V) (map : OrderedMap V) where
     root-after : root_in f n after ≡ root_in f n mid
     root-after = ap low_of (c.others (f + 2 * n) (λ at here e. omega (arith, e)))
 
+    forks-after : (p : ℕ) → forks_in f n after p ≡ forks_in f n mid p
+    forks-after p = ap words_of (c.others (f + 2 * n + 1 + p) (λ at here e. omega (arith, e, here)))
+
+    module _ (t : Trie) (o : IsOrderedBy f n t before) where
+      loses : Loses map.map.cells key at 64 0 (root_in f n mid) t before mid
+      loses = d.loses t o.root o.held o.split (o.all at key place)
+
+      -- the last key leaves no trie
+      none-left : LeavesNone map.map.cells key at (root_in f n mid) t → IsBare f n after
+      none-left none = record {
+        root = root-after ∙ none.is;
+        none = λ k. nowhere k (cases_eq k key);
+      }
+        where
+          never : (k : ℕ) (p : Option ℕ) → (k ≡ key → ⊥) → place_in f n before k ≡ p → p ≡ None
+          never k None apart is = refl
+          never k (Some q) apart is = absurd (apart (none.alone q k (o.all q k is)).1)
+
+          nowhere : (k : ℕ) → (k ≡ key) ⊎ (k ≡ key → ⊥) → place_in f n after k ≡ None
+          nowhere k (inl same) = ap (place_in f n after) same ∙ placed-nowhere
+          nowhere k (inr apart) =
+              placed-as-before k apart ∙ never k (place_in f n before k) apart refl
+
+      -- any other one leaves one
+      rest-left : (r : LeavesRest map.map.cells key 64 0 (root_in f n mid) t mid) → IsOrderedBy f n r.rest after
+      rest-left r = record {
+        root = root-after ∙ r.is;
+        held = holds-by n (keys_in f mid) (keys_in f after) (forks_in f n mid) (forks_in f n after)
+            (λ p below. forks-after p) r.rest (λ p k h. (place-holds f n some after k p (stands p k h)).0) r.held;
+        split = r.below;
+        there = stands;
+        all = λ p k at_p. has p k at_p (cases_eq k key);
+      }
+        where
+          stands : (p k : ℕ) → Has p k r.rest → place_in f n after k ≡ Some p
+          stands p k h =
+              let was = r.no_more p k h in
+              placed-as-before k was.1 ∙ o.there p k was.0
+
+          has : (p k : ℕ) → place_in f n after k ≡ Some p → (k ≡ key) ⊎ (k ≡ key → ⊥) → Has p k r.rest
+          has p k at_p (inl same) =
+              absurd (none_not p (sym placed-nowhere ∙ ap (place_in f n after) (sym same) ∙ at_p))
+          has p k at_p (inr apart) = r.kept p k (o.all p k (sym (placed-as-before k apart) ∙ at_p)) apart
+
+      -- a fork on which the trie did not stand is as it was
+      free-still : ((c : ℕ) → c < n → (Uses c t → ⊥) → (forks_in f n before c).1 ≡ 0) → (c : ℕ) → c < n → (Uses c t → ⊥) →
+          (forks_in f n after c).1 ≡ 0
+      free-still spare c within off =
+          ap (λ (w : ℕ × ℕ). w.1) (forks-after c ∙ loses.stays c off) ∙ spare c within off
+
+      forks-left : ((c : ℕ) → c < n → (Uses c t → ⊥) → (forks_in f n before c).1 ≡ 0) →
+          LeavesNone map.map.cells key at (root_in f n mid) t
+          ⊎ LeavesRest map.map.cells key 64 0 (root_in f n mid) t mid → WastesNoFork map after
+      forks-left spare (inl none) = inl (none-left none, λ c within. free-still spare c within (none.bare c))
+      forks-left spare (inr r) = inr (r.rest, rest-left r, λ c within off. by c within off (uses_or_not c t))
+        where
+          freed : (c : ℕ) → (Uses c r.rest → ⊥) → ((forks_in f n mid c).1 ≡ 0) ⊎ Uses c r.rest → (forks_in f n mid c).1 ≡ 0
+          freed c off (inl free) = free
+          freed c off (inr used) = absurd (off used)
+
+          by : (c : ℕ) → c < n → (Uses c r.rest → ⊥) → Uses c t ⊎ (Uses c t → ⊥) → (forks_in f n after c).1 ≡ 0
+          by c within off (inl used) = ap (λ (w : ℕ × ℕ). w.1) (forks-after c) ∙ freed c off (r.freed c used)
+          by c within off (inr unused) = free-still spare c within unused
+
+      order-left : LeavesNone map.map.cells key at (root_in f n mid) t
+          ⊎ LeavesRest map.map.cells key 64 0 (root_in f n mid) t mid → IsOrdered f n after
+      order-left (inl none) = inl (none-left none)
+      order-left (inr r) = inr (r.rest, rest-left r)
+
     order-taken : IsOrdered f n before → IsOrdered f n after
     order-taken (inl bare) = absurd (none_not at (sym (bare.none key) ∙ place))
-    order-taken (inr (t, o)) = by l.left
-      where
-        l : Loses map.map.cells key at 64 0 (root_in f n mid) t before mid
-        l = d.loses t o.root o.held o.split (o.all at key place)
+    order-taken (inr (t, o)) = order-left t o (loses t o).left
 
-        by : LeavesNone map.map.cells key at (root_in f n mid) t
-            ⊎ LeavesRest map.map.cells key 64 0 (root_in f n mid) t mid → IsOrdered f n after
-        by (inl none) = inl (record {
-          root = root-after ∙ none.is;
-          none = λ k. nowhere k (cases_eq k key);
-        })
-          where
-            never : (k : ℕ) (p : Option ℕ) → (k ≡ key → ⊥) → place_in f n before k ≡ p → p ≡ None
-            never k None apart is = refl
-            never k (Some q) apart is = absurd (apart (none.alone q k (o.all q k is)).1)
-
-            nowhere : (k : ℕ) → (k ≡ key) ⊎ (k ≡ key → ⊥) → place_in f n after k ≡ None
-            nowhere k (inl same) = ap (place_in f n after) same ∙ placed-nowhere
-            nowhere k (inr apart) =
-                placed-as-before k apart ∙ never k (place_in f n before k) apart refl
-        by (inr r) = inr (
-          r.rest,
-          record {
-            root = root-after ∙ r.is;
-            held = holds-by n (keys_in f mid) (keys_in f after) (forks_in f n mid) (forks_in f n after)
-                (λ p below. ap words_of (c.others (f + 2 * n + 1 + p) (λ at here e. omega (arith, e, here)))) r.rest
-                (λ p k h. (place-holds f n some after k p (stands p k h)).0) r.held;
-            split = r.below;
-            there = stands;
-            all = λ p k at_p. has p k at_p (cases_eq k key);
-          },
-        )
-          where
-            stands : (p k : ℕ) → Has p k r.rest → place_in f n after k ≡ Some p
-            stands p k h =
-                let was = r.no_more p k h in
-                placed-as-before k was.1 ∙ o.there p k was.0
-
-            has : (p k : ℕ) → place_in f n after k ≡ Some p → (k ≡ key) ⊎ (k ≡ key → ⊥) → Has p k r.rest
-            has p k at_p (inl same) =
-                absurd (none_not p (sym placed-nowhere ∙ ap (place_in f n after) (sym same) ∙ at_p))
-            has p k at_p (inr apart) = r.kept p k (o.all p k (sym (placed-as-before k apart) ∙ at_p)) apart
+    forks-taken : WastesNoFork map before → WastesNoFork map after
+    forks-taken (inl (bare, spare)) = absurd (none_not at (sym (bare.none key) ∙ place))
+    forks-taken (inr (t, o, spare)) = forks-left t o spare (loses t o).left
 
     taken : Makes found map key None (item_of found map.map before key) before after
     taken = record {
@@ -281,6 +353,8 @@ module _ {V : Type 0} (found : Val → V) (map : OrderedMap V) where
       others = λ k apart. cleared.others k apart ∙ items-stay before mid d.others k;
       around = λ o out. cleared.around o (outside o out) ∙ d.others o (around-order o out);
       order = order-taken;
+      wastes = λ none. cleared.wastes (wastes-stay before mid d.others none);
+      forks = forks-taken;
     }
 
   pub takes-key : (key at : ℕ) (before mid after : List Val) → DropsKey map.map.cells key at before mid →
@@ -323,6 +397,8 @@ module _ {V : Type 0} (found : Val → V) (map : OrderedMap V) where
         others = λ k apart. ap (λ (v : List Val). item_of found map.map v k) same;
         around = λ o out. ap (λ (v : List Val). value_at v o) same;
         order = subst (λ (v : List Val). IsInOrder map before → IsInOrder map v) (sym same) (λ order. order);
+        wastes = subst (λ (v : List Val). WastesNone map.map before → WastesNone map.map v) (sym same) (λ none. none);
+        forks = subst (λ (v : List Val). WastesNoFork map before → WastesNoFork map v) (sym same) (λ none. none);
       }
   pops-some entry (Some had) before mid after first done =
       let same = first.same in
@@ -332,6 +408,8 @@ module _ {V : Type 0} (found : Val → V) (map : OrderedMap V) where
         others = λ k apart. done.others k apart ∙ ap (λ (v : List Val). item_of found map.map v k) same;
         around = λ o out. done.around o out ∙ ap (λ (v : List Val). value_at v o) same;
         order = subst (λ (v : List Val). IsInOrder map v → IsInOrder map after) same done.order;
+        wastes = subst (λ (v : List Val). WastesNone map.map v → WastesNone map.map after) same done.wastes;
+        forks = subst (λ (v : List Val). WastesNoFork map v → WastesNoFork map after) same done.forks;
       }
 
   -- what a place holds was looked up

@@ -20,12 +20,11 @@ module _ (set : OrderedSet) where
   -- an empty set is made
   pub adds : (before after : List Val) → ordered.Adds present_of set.map before after → Adds set before after
   adds before after a = record {
-    added = a.added;
-    behind = a.behind;
-    first = a.first;
-    count = a.count;
+    cells = a.cells;
     empty = λ key. ap is_some (a.empty key);
     order = a.order;
+    free = a.free;
+    forks = a.forks;
   }
 
   -- ---- what is set
@@ -37,8 +36,7 @@ module _ (set : OrderedSet) where
     was = ap is_some m.was;
     is = ap is_some m.is;
     others = λ k apart. ap is_some (m.others k apart);
-    around = m.around;
-    order = m.order;
+    keeps = record { around = m.around; order = m.order; wastes = m.wastes; forks = m.forks };
   }
 
   -- a key is there
@@ -68,7 +66,7 @@ module _ (set : OrderedSet) where
       by (Instead had) m =
           absurd (none_not had
           (sym (ap (at_place (values_in present_of set.map.map.cells.first before)) absent) ∙ m.was))
-      by Full none = record { was = ap is_some none.was; full = none.full; same = none.same }
+      by Full none = record { was = ap is_some none.was; full = none.full; places = none.places; same = none.same }
 
   -- a key is taken out
   pub removes : (key : ℕ) (removed : Option Present) (answer : Bool) (before after : List Val) → answer ≡ is_some removed →
@@ -129,8 +127,7 @@ module _ (set : OrderedSet) where
         first = λ order. first-in before (Some taken) (t.first order);
         is = ap is_some t.is;
         others = λ k apart. ap is_some (t.others k apart);
-        around = t.around;
-        order = t.order;
+        keeps = record { around = t.around; order = t.order; wastes = t.wastes; forks = t.forks };
       }
 
   -- ---- all keys

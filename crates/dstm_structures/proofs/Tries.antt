@@ -1,6 +1,7 @@
 -- Tries of keys in cells: which cells they stand on, and what they hold once a cell was set.
 use Rattle.std.proofs.Common.{◌≡◌, ◌∙◌, ℕ, ◌+◌, ◌*◌, ◌/◌, ◌^◌, ◌<◌, ◌≤◌, ap, arith, refl, sym, ◌⊎◌, inl, inr}
 use Rattle.std.specs.Prelude.{Option}
+use Rattle.std.proofs.lemmas.Bool.{cases_eq}
 use Rattle.std.proofs.Math.Nat.{mul-div_cancel}
 use Rattle.std.proofs.lemmas.Nat.{pow_pos}
 use Rattle.dstm_structures.specs.Orders.{Below, Has, Holds, Trie, fork, left_in, level_in, link_to, right_in, tip}
@@ -34,6 +35,22 @@ widen j q under bits y less is half_is (fork c i p l r) b =
     (omega (arith, b.0, less), under_fork (p * 2 ^ (i + 1)) j q under bits y less is b.1 half_is, b.2, b.3)
 
 -- ---- the cells that a trie stands on
+
+pub uses_or_not : (c : ℕ) (t : Trie) → Uses c t ⊎ (Uses c t → ⊥)
+uses_or_not c (tip p k) = inr (λ used. used)
+uses_or_not c (fork p j q l r) = by (cases_eq c p) (uses_or_not c l) (uses_or_not c r)
+  where
+    by : (c ≡ p) ⊎ (c ≡ p → ⊥) → Uses c l ⊎ (Uses c l → ⊥) → Uses c r ⊎ (Uses c r → ⊥) →
+        Uses c (fork p j q l r) ⊎ (Uses c (fork p j q l r) → ⊥)
+    by (inl e) left right = inl (inl e)
+    by (inr apart) (inl used) right = inl (inr (inl used))
+    by (inr apart) (inr off) (inl used) = inl (inr (inr used))
+    by (inr apart) (inr off) (inr away) = inr never
+      where
+        never : Uses c (fork p j q l r) → ⊥
+        never (inl e) = apart e
+        never (inr (inl used)) = off used
+        never (inr (inr used)) = away used
 
 module _ (n : ℕ) (keys : ℕ → Option ℕ) (forks : ℕ → ℕ × ℕ) where
   -- the cell of each fork tells that it stands there

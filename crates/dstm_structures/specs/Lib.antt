@@ -1,3 +1,4 @@
+pub mod Added
 pub mod Circles
 pub mod Effects
 pub mod Items

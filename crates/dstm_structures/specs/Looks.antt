@@ -1,16 +1,17 @@
 -- What is found by looks alone, by whatever values there may be.
 use Rattle.std.proofs.Common.{◌∙◌, refl, subst, sym, ◌⊎◌, inl, inr}
 use Rattle.std.specs.Prelude.{◌≡◌, ℕ, ◌<◌, Bool, true, false, List}
+use Rattle.dstm_model.specs.declared.value.Law.{Ghosts}
 use Rattle.dstm_model.specs.declared.value.Val.{Val}
 use Rattle.dstm_tables.specs.Tables.{objects_there}
 use Rattle.dstm_attempts.specs.Attempts.{Attempt, SetsNothing}
-use Rattle.dstm_cells.specs.Alternatives.{Notes, Noting}
-use Rattle.dstm_cells.specs.UnderWay.{Keeps, MayBegin, seen}
+use Rattle.dstm_cells.specs.UnderWay.{MayBegin, seen}
 use Rattle.dstm_cells.specs.declared.error.Failed.{Failed}
 use Rattle.dstm_cells.specs.declared.error.Failed.TheVariants as failed
 use Rattle.dstm_cells.specs.declared.error.Why.{Why}
 use Rattle.dstm_cells.specs.declared.error.Why.TheVariants.{Again, Retry, Foreign, Memory}
-use Rattle.dstm_structures.specs.Effects.{Stops}
+use Rattle.dstm_cells.specs.declared.under_way.Tx.{Tx}
+use Rattle.dstm_structures.specs.Effects.{GoesOn, Stops, goes-again, goes-still}
 
 -- for what looks at cells, and stands at these values if it has begun at this map
 module _ {B : Type 0} (stands : B → List Val → List Val → Type 0) where
@@ -22,49 +23,46 @@ module _ {B : Type 0} (stands : B → List Val → List Val → Type 0) where
   abbrev pub StandsSomewhere : B → Type 0
   StandsSomewhere by = (map : List Val) × (values : List Val) × stands by map values
 
--- ---- an attempt
+-- ---- a transaction under way
 
-module _ {L : Type 0} (holds : L → List Val → Type 0) where
-  -- an attempt that has begun at this map stands at these values
-  abbrev pub StandsAt : Noting L → List Val → List Val → Type 0
-  StandsAt k map values = MayBegin holds k.caller map × (seen k.caller map ≡ values)
+module _ {L : Type 0} {ghosts : Ghosts L} (holds : L → List Val → Type 0) where
+  -- one whose attempt has begun at this map stands at these values
+  abbrev pub StandsAt : Tx L ghosts → List Val → List Val → Type 0
+  StandsAt k map values = MayBegin holds k.attempts.caller map × (seen k.attempts.caller map ≡ values)
 
-  -- looks go on with the same attempt and set nothing, and what was noted before is noted behind them
-  pub record GoesOn (old new : Noting L) : Type 0 where
-    pub keeps : Keeps old.caller new.caller
-    pub unset : SetsNothing holds old.caller new.caller
-    pub notes : (first : Noting L) → Notes holds first old → Notes holds first new
+  -- it has only looked: it goes on, and has set nothing
+  pub record OnlyLooks (old new : Tx L ghosts) : Type 0 where
+    pub goes : GoesOn holds old new
+    pub open goes use *
+    pub unset : SetsNothing holds old.attempts.caller new.attempts.caller
 
-  pub goes-still : (k : Noting L) → GoesOn k k
-  goes-still k = record {
-    keeps = refl;
+  pub looks-still : (k : Tx L ghosts) → OnlyLooks k k
+  looks-still k = record {
+    goes = goes-still;
     unset = record { narrows = λ map may. may; same = λ map. refl };
-    notes = λ first noted. noted;
   }
 
-  pub goes-again : (k m n : Noting L) → GoesOn k m → GoesOn m n → GoesOn k n
-  goes-again k m n one two = record {
-    keeps = two.keeps ∙ one.keeps;
+  pub looks-again : (k m n : Tx L ghosts) → OnlyLooks k m → OnlyLooks m n → OnlyLooks k n
+  looks-again k m n one two = record {
+    goes = goes-again one.goes two.goes;
     unset = record {
       narrows = λ map may. one.unset.narrows map (two.unset.narrows map may);
       same = λ map. two.unset.same map ∙ one.unset.same map;
     };
-    notes = λ first noted. two.notes first (one.notes first noted);
   }
 
-  pub goes-narrows : (k n : Noting L) (map values : List Val) → GoesOn k n → StandsAt n map values → StandsAt k map values
-  goes-narrows k n map values goes at = (goes.unset.narrows map at.0, sym (goes.unset.same map) ∙ at.1)
+  pub looks-narrow : (k n : Tx L ghosts) (map values : List Val) → OnlyLooks k n → StandsAt n map values → StandsAt k map values
+  looks-narrow k n map values looks at = (looks.unset.narrows map at.0, sym (looks.unset.same map) ∙ at.1)
 
-  pub goes-stops : (lists : Bool) (size : ℕ) (k m n : Noting L) (why : Why) → GoesOn k m →
-      Stops size lists m.caller n.caller why → Stops size lists k.caller n.caller why
-  goes-stops lists size k m n Again goes stops = stops
-  goes-stops lists size k m n Retry goes stops = stops
-  goes-stops lists size k m n Foreign goes stops =
-      subst (λ (a : Attempt L). objects_there a.home < size) goes.keeps stops
-  goes-stops lists size k m n Memory goes stops = stops
+  pub stops-later : (lists : Bool) (size : ℕ) (k m n : Tx L ghosts) (why : Why) → OnlyLooks k m → Stops size lists m n why →
+      Stops size lists k n why
+  stops-later lists size k m n Again looks stops = stops
+  stops-later lists size k m n Retry looks stops = stops
+  stops-later lists size k m n Foreign looks stops =
+      subst (λ (a : Attempt L). objects_there a.home < size) looks.keeps stops
+  stops-later lists size k m n Memory looks stops = stops
 
-  pub stops-listing : (size : ℕ) (k n : Noting L) (why : Why) → Stops size false k.caller n.caller why →
-      Stops size true k.caller n.caller why
+  pub stops-listing : (size : ℕ) (k n : Tx L ghosts) (why : Why) → Stops size false k n why → Stops size true k n why
   stops-listing size k n Again stops = stops
   stops-listing size k n Retry stops = stops
   stops-listing size k n Foreign stops = stops

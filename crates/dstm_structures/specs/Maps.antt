@@ -1,7 +1,8 @@
 -- What a map's cells hold, and what the calls on it do.
-use Rattle.std.specs.Prelude.{◌≡◌, ◌≢◌, ◌⊎◌, ℕ, ◌+◌, ◌*◌, ◌/◌, ◌%◌, ◌^◌, ◌<◌, ◌≤◌, ◌==◌, Bool, true, false, if◌then◌else◌, nat_lt, List, ◌++◌, length, Option, None, Some, is_some}
+use Rattle.std.specs.Prelude.{◌≡◌, ◌≢◌, ◌⊎◌, ℕ, ◌+◌, ◌*◌, ◌/◌, ◌%◌, ◌^◌, ◌<◌, ◌≤◌, ◌==◌, Bool, true, false, if◌then◌else◌, nat_lt, List, Option, None, Some, is_some}
 use Rattle.dstm_model.specs.declared.value.Val.{Val}
 use Rattle.dstm_model.specs.Map.{value_at}
+use Rattle.dstm_structures.specs.Added.{AddsCells}
 use Rattle.dstm_structures.specs.Circles.{behind}
 use Rattle.dstm_structures.specs.Places.{AreTaken, find, is_free, is_key}
 use Rattle.dstm_structures.specs.declared.cells.Slot.{Slot}
@@ -70,6 +71,12 @@ module _ {V : Type 0} (map : HashMap V) where
   abbrev pub homes : ℕ → ℕ
   homes key = home_in map.cells.capacity key
 
+  -- NO PLACE IS WASTED: each key that a place holds is found there
+  abbrev pub WastesNone : List Val → Type 0
+  WastesNone values =
+      (at key : ℕ) → at < map.cells.capacity → key_at values at ≡ Some key →
+      place_in map.cells.first map.cells.capacity values key ≡ Some at
+
   -- keys of this home are looked for at so many places
   pub record Reaches (home reach : ℕ) (before after : List Val) : Type 0 where
     pub is : reach ≡ reach_at before home
@@ -118,6 +125,7 @@ module _ {V : Type 0} (map : HashMap V) where
   pub record Empties (at key : ℕ) (before after : List Val) : Type 0 where
     pub gone : is_key key (key_at after at) ≡ false
     pub keys : (k p : ℕ) → k ≢ key → is_key k (key_at after p) ≡ is_key k (key_at before p)
+    pub less : (p : ℕ) → (key_at after p ≡ None) ⊎ (key_at after p ≡ key_at before p)
     pub reaches : (home : ℕ) → reach_at after home ≡ reach_at before home
     pub others : (o : ℕ) → o ≢ map.cells.first + 2 * at → value_at after o ≡ value_at before o
 
@@ -125,6 +133,7 @@ module _ {V : Type 0} (map : HashMap V) where
   pub record Clears (key passed : ℕ) (before after : List Val) : Type 0 where
     pub gone : (j : ℕ) → j < passed → is_key key (key_at after (behind map.cells.capacity (homes key) j)) ≡ false
     pub keys : (k p : ℕ) → k ≢ key → is_key k (key_at after p) ≡ is_key k (key_at before p)
+    pub less : (p : ℕ) → (key_at after p ≡ None) ⊎ (key_at after p ≡ key_at before p)
     pub reaches : (home : ℕ) → reach_at after home ≡ reach_at before home
     pub others : (o : ℕ) → ((at : ℕ) → at < map.cells.capacity → o ≢ map.cells.first + 2 * at) →
         value_at after o ≡ value_at before o
@@ -154,12 +163,14 @@ module _ {V : Type 0} (found : Val → V) (map : HashMap V) where
     pub is : answer ≡ is_some (item_of before key)
     pub same : after ≡ before
 
-  -- A KEY HAS THIS NOW, and had that before; every other key has what it had, and no object around the map was set
+  -- A KEY HAS THIS NOW, and had that before; every other key has what it had, no object around the map was set, and where no
+  -- place was wasted, none is
   pub record Makes (key : ℕ) (now had : Option V) (before after : List Val) : Type 0 where
     pub was : item_of before key ≡ had
     pub is : item_of after key ≡ now
     pub others : (k : ℕ) → k ≢ key → item_of after k ≡ item_of before k
     pub around : KeepsAround map.cells.first map.cells.capacity before after
+    pub wastes : WastesNone map before → WastesNone map after
 
   -- a key was not there, each place holds one, and nothing was set
   pub record HasNoRoom (key : ℕ) (before after : List Val) : Type 0 where
@@ -204,9 +215,7 @@ module _ {V : Type 0} (found : Val → V) (map : HashMap V) where
 
   -- an empty map has got the objects behind those before
   pub record Adds (before after : List Val) : Type 0 where
-    pub added : List Val
-    pub behind : after ≡ before ++ added
-    pub first : map.cells.first ≡ length before
-    pub count : length added ≡ 2 * map.cells.capacity
+    pub cells : AddsCells map.cells.first (2 * map.cells.capacity) before after
+    pub open cells use *
     pub empty : (key : ℕ) → item_of after key ≡ None
     pub free : (at : ℕ) → at < map.cells.capacity → key_at map after at ≡ None

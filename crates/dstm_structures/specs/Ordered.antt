@@ -1,9 +1,11 @@
 -- What the calls on an ordered map do, by what its cells hold.
-use Rattle.std.specs.Prelude.{◌≡◌, ◌≢◌, ◌⊎◌, ℕ, ◌+◌, ◌*◌, ◌<◌, ◌≤◌, Bool, true, false, List, ◌++◌, length, Option, None, Some, is_some}
+use Rattle.std.specs.Prelude.{◌≡◌, ◌≢◌, ◌⊎◌, ℕ, ◌+◌, ◌*◌, ◌<◌, ◌≤◌, Bool, true, false, List, Option, None, Some, is_some}
 use Rattle.dstm_model.specs.declared.value.Val.{Val}
 use Rattle.dstm_model.specs.Map.{value_at}
-use Rattle.dstm_structures.specs.Maps.{Tells, item_of, key_at, place_in, values_in}
+use Rattle.dstm_structures.specs.Added.{AddsCells}
+use Rattle.dstm_structures.specs.Maps.{Tells, WastesNone, item_of, key_at, place_in, values_in}
 use Rattle.dstm_structures.specs.Orders.{IsOrdered, forks_in, order_end}
+use Rattle.dstm_structures.specs.Tips as tips
 use Rattle.dstm_structures.specs.declared.map.Placed.{Placed}
 use Rattle.dstm_structures.specs.declared.map.Placed.TheVariants.{New, Instead, Full}
 use Rattle.dstm_structures.specs.declared.ordered.OrderedMap.{OrderedMap}
@@ -12,6 +14,10 @@ module _ {V : Type 0} (map : OrderedMap V) where
   -- THE CELLS OF A MAP ARE IN ORDER, by the values of all objects
   abbrev pub IsInOrder : List Val → Type 0
   IsInOrder values = IsOrdered map.map.cells.first map.map.cells.capacity values
+
+  -- NO FORK IS WASTED: the cells are in order, and each fork is free on which their trie does not stand
+  abbrev pub WastesNoFork : List Val → Type 0
+  WastesNoFork values = tips.WastesNoFork map.map.cells.first map.map.cells.capacity values
 
   -- every object but those of the map keeps its value
   abbrev pub KeepsOthers : List Val → List Val → Type 0
@@ -24,20 +30,24 @@ module _ {V : Type 0} (map : OrderedMap V) where
     pub same : after ≡ before
 
 module _ {V : Type 0} (found : Val → V) (map : OrderedMap V) where
-  -- A KEY HAS THIS NOW, and had that before; every other key has what it had, no object around the map was set, and where
-  -- the cells were in order, they are
+  -- A KEY HAS THIS NOW, and had that before; every other key has what it had, no object around the map was set, where the
+  -- cells were in order, they are, and where no place was wasted, or no fork, none is
   pub record Makes (key : ℕ) (now had : Option V) (before after : List Val) : Type 0 where
     pub was : item_of found map.map before key ≡ had
     pub is : item_of found map.map after key ≡ now
     pub others : (k : ℕ) → k ≢ key → item_of found map.map after k ≡ item_of found map.map before k
     pub around : KeepsOthers map before after
     pub order : IsInOrder map before → IsInOrder map after
+    pub wastes : WastesNone map.map before → WastesNone map.map after
+    pub forks : WastesNoFork map before → WastesNoFork map after
 
-  -- a key was not there, each place holds one or each fork is taken, and nothing was set
+  -- a key was not there, each place holds one or each fork is taken, and nothing was set; where no fork is wasted, each place
+  -- holds a key
   pub record HasNoRoom (key : ℕ) (before after : List Val) : Type 0 where
     pub was : item_of found map.map before key ≡ None
     pub full : ((at : ℕ) → at < map.map.cells.capacity → is_some (key_at map.map before at) ≡ true)
         ⊎ ((at : ℕ) → at < map.map.cells.capacity → (forks_in map.map.cells.first map.map.cells.capacity before at).1 ≢ 0)
+    pub places : WastesNoFork map before → (at : ℕ) → at < map.map.cells.capacity → is_some (key_at map.map before at) ≡ true
     pub same : after ≡ before
 
   -- WHAT PUTTING A KEY DOES, by the answer
@@ -129,16 +139,18 @@ module _ {V : Type 0} (found : Val → V) (map : OrderedMap V) where
     pub others : (k : ℕ) → k ≢ entry.0 → item_of found map.map after k ≡ item_of found map.map before k
     pub around : KeepsOthers map before after
     pub order : IsInOrder map before → IsInOrder map after
+    pub wastes : WastesNone map.map before → WastesNone map.map after
+    pub forks : WastesNoFork map before → WastesNoFork map after
 
   abbrev pub Pops : Option (ℕ × V) → List Val → List Val → Type 0
   Pops None before after = TellsFirst None before after
   Pops (Some entry) before after = TakesFirst entry before after
 
-  -- an empty map, in order, has got the objects behind those before
+  -- an empty map, in order, has got the objects behind those before, and each of its places and forks is free
   pub record Adds (before after : List Val) : Type 0 where
-    pub added : List Val
-    pub behind : after ≡ before ++ added
-    pub first : map.map.cells.first ≡ length before
-    pub count : length added ≡ 3 * map.map.cells.capacity + 1
+    pub cells : AddsCells map.map.cells.first (3 * map.map.cells.capacity + 1) before after
+    pub open cells use *
     pub empty : (key : ℕ) → item_of found map.map after key ≡ None
     pub order : IsInOrder map after
+    pub free : (at : ℕ) → at < map.map.cells.capacity → key_at map.map after at ≡ None
+    pub forks : (at : ℕ) → at < map.map.cells.capacity → (forks_in map.map.cells.first map.map.cells.capacity after at).1 ≡ 0

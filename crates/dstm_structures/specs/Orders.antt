@@ -1,5 +1,5 @@
 -- What the order of a map's keys is: a trie of their bits, in cells of its own behind those of the places.
-use Rattle.std.specs.Prelude.{◌≡◌, ◌⊎◌, ℕ, ◌+◌, ◌-◌, ◌*◌, ◌/◌, ◌%◌, ◌^◌, ◌<◌, ◌≤◌, ◌==◌, Bool, true, false, if◌then◌else◌, nat_lt, List, Option, None, Some}
+use Rattle.std.specs.Prelude.{◌≡◌, ◌⊎◌, ℕ, ◌+◌, ◌-◌, ◌*◌, ◌/◌, ◌%◌, ◌^◌, ◌<◌, ◌≤◌, ◌==◌, Bool, true, false, if◌then◌else◌, max, nat_lt, List, Option, None, Some}
 use Rattle.dstm_model.specs.declared.value.Val.{Val}
 use Rattle.dstm_model.specs.Map.{value_at}
 use Rattle.dstm_structures.specs.Maps.{keys_in, place_in}
@@ -26,6 +26,11 @@ abbrev pub Below : (under bits : ℕ) → Trie → Type 0
 Below under bits (tip p k) = k / 2 ^ under ≡ bits
 Below under bits (fork p j q l r) =
     (j < under) × ((q * 2 ^ (j + 1)) / 2 ^ under ≡ bits) × Below j (2 * q) l × Below j (2 * q + 1) r
+
+-- how many forks stand on the longest way down a trie
+abbrev pub height : Trie → ℕ
+height (tip p k) = 0
+height (fork p j q l r) = max (height l) (height r) + 1
 
 -- ---- what the cells tell
 

@@ -2,7 +2,10 @@
 use Rattle.std.specs.Prelude.{◌≡◌, ◌⊎◌, ℕ, ◌+◌, ◌%◌, ◌^◌, ◌<◌, Bool, true, false, if◌then◌else◌, nat_lt, List, [], ◌∷◌, ◌++◌, length, Option, None, Some}
 use Rattle.dstm_model.specs.declared.value.Val.{Val}
 use Rattle.dstm_model.specs.Map.{value_at}
+use Rattle.dstm_tables.specs.declared.tables.Caller.{Caller}
+use Rattle.dstm_structures.specs.Added.{AddsCells}
 use Rattle.dstm_structures.specs.Circles.{held_from}
+use Rattle.dstm_structures.specs.Effects.{OpensEach}
 use Rattle.dstm_structures.specs.declared.queue.Queue.{Queue}
 
 -- the two numbers that a value tells
@@ -73,10 +76,42 @@ module _ {T : Type 0} (found : Val → T) (queue : Queue T) where
   Fronts None before after = Counts 0 before after
   Fronts (Some value) before after = Leads value before after
 
+  -- ---- what the calls open
+
+  -- the cell of the ends
+  abbrev pub ends_at : ℕ
+  ends_at = queue.cells.first
+
+  module _ {L : Type 0} (holds : L → List Val → Type 0) where
+    -- the cell of the ends is read, and no other one is opened
+    abbrev pub OpensEnds : Caller L → Caller L → Type 0
+    OpensEnds old new = OpensEach holds ((false, ends_at) ∷ []) old new
+
+    -- the cell of the ends is read, a place is opened, and the ends are set
+    abbrev pub OpensPlace : (writes : Bool) → Caller L → Caller L → Type 0
+    OpensPlace writes old new =
+        (at : ℕ) × (at < queue.cells.capacity)
+        × OpensEach holds ((false, ends_at) ∷ (writes, ends_at + 1 + at) ∷ (true, ends_at) ∷ []) old new
+
+    -- WHAT PUTTING A VALUE OPENS, by whether there was room
+    abbrev pub OpensToPush : Bool → Caller L → Caller L → Type 0
+    OpensToPush true old new = OpensPlace true old new
+    OpensToPush false old new = OpensEnds old new
+
+    -- WHAT TAKING THE FIRST VALUE OPENS, by whether there was one
+    abbrev pub OpensToPop : Option T → Caller L → Caller L → Type 0
+    OpensToPop None old new = OpensEnds old new
+    OpensToPop (Some value) old new = OpensPlace false old new
+
+    -- what a look at the first value opens
+    abbrev pub OpensToFront : Option T → Caller L → Caller L → Type 0
+    OpensToFront None old new = OpensEnds old new
+    OpensToFront (Some value) old new =
+        (at : ℕ) × (at < queue.cells.capacity)
+        × OpensEach holds ((false, ends_at) ∷ (false, ends_at + 1 + at) ∷ []) old new
+
   -- an empty queue has got the objects behind those before
   pub record Adds (before after : List Val) : Type 0 where
-    pub added : List Val
-    pub behind : after ≡ before ++ added
-    pub first : queue.cells.first ≡ length before
-    pub count : length added ≡ queue.cells.capacity + 1
+    pub cells : AddsCells queue.cells.first (queue.cells.capacity + 1) before after
+    pub open cells use *
     pub empty : items_of after ≡ []

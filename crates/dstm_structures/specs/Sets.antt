@@ -1,9 +1,10 @@
 -- What the calls on an ordered set do, by what its cells hold.
-use Rattle.std.specs.Prelude.{◌≡◌, ◌≢◌, ◌⊎◌, ℕ, ◌+◌, ◌*◌, ◌<◌, Bool, true, false, List, ◌++◌, length, AllPairs, Contains, Option, None, Some, is_some}
+use Rattle.std.specs.Prelude.{◌≡◌, ◌≢◌, ◌⊎◌, ℕ, ◌+◌, ◌*◌, ◌<◌, Bool, true, false, List, length, AllPairs, Contains, Option, None, Some, is_some}
 use Rattle.dstm_model.specs.declared.value.Val.{Val}
+use Rattle.dstm_structures.specs.Added.{AddsCells}
 use Rattle.dstm_structures.specs.Maps as maps
-use Rattle.dstm_structures.specs.Maps.{item_of, key_at}
-use Rattle.dstm_structures.specs.Ordered.{IsInOrder, KeepsOthers, TellsInOrder}
+use Rattle.dstm_structures.specs.Maps.{WastesNone, item_of, key_at}
+use Rattle.dstm_structures.specs.Ordered.{IsInOrder, KeepsOthers, TellsInOrder, WastesNoFork}
 use Rattle.dstm_structures.specs.Orders.{forks_in}
 use Rattle.dstm_structures.specs.declared.map.Placed.{Placed}
 use Rattle.dstm_structures.specs.declared.map.Placed.TheVariants as placed
@@ -40,21 +41,31 @@ module _ (set : OrderedSet) where
   abbrev pub TellsIf : (key : ℕ) (answer : Bool) (before after : List Val) → Type 0
   TellsIf key answer before after = maps.TellsIf present_of set.map.map key answer before after
 
-  -- A KEY IS IN THE SET NOW, or is not, and was in it, or was not; every other key is in it where it was, no object around the
-  -- set was set, and where the cells were in order, they are
+  -- what a change of a set keeps: no object around it was set, where the cells were in order, they are, and where no place was
+  -- wasted, or no fork, none is
+  pub record KeepsWell (before after : List Val) : Type 0 where
+    pub around : KeepsOthers set.map before after
+    pub order : IsOrdered before → IsOrdered after
+    pub wastes : WastesNone set.map.map before → WastesNone set.map.map after
+    pub forks : WastesNoFork set.map before → WastesNoFork set.map after
+
+  -- A KEY IS IN THE SET NOW, or is not, and was in it, or was not; every other key is in it where it was
   pub record Makes (key : ℕ) (now had : Bool) (before after : List Val) : Type 0 where
     pub was : is_in before key ≡ had
     pub is : is_in after key ≡ now
     pub others : (k : ℕ) → k ≢ key → is_in after k ≡ is_in before k
-    pub around : KeepsOthers set.map before after
-    pub order : IsOrdered before → IsOrdered after
+    pub keeps : KeepsWell before after
+    pub open keeps use *
 
-  -- a key was not in the set, each place holds one or each fork is taken, and nothing was set
+  -- a key was not in the set, each place holds one or each fork is taken, and nothing was set; where no fork is wasted, each
+  -- place holds a key
   pub record HasNoRoom (key : ℕ) (before after : List Val) : Type 0 where
     pub was : is_in before key ≡ false
     pub full : ((at : ℕ) → at < set.map.map.cells.capacity → is_some (key_at set.map.map before at) ≡ true)
         ⊎ ((at : ℕ) → at < set.map.map.cells.capacity →
         (forks_in set.map.map.cells.first set.map.map.cells.capacity before at).1 ≢ 0)
+    pub places : WastesNoFork set.map before → (at : ℕ) → at < set.map.map.cells.capacity →
+        is_some (key_at set.map.map before at) ≡ true
     pub same : after ≡ before
 
   -- WHAT INSERTING A KEY DOES, by the answer
@@ -103,8 +114,8 @@ module _ (set : OrderedSet) where
     pub first : IsOrdered before → IsFirst (Some key) before
     pub is : is_in after key ≡ false
     pub others : (k : ℕ) → k ≢ key → is_in after k ≡ is_in before k
-    pub around : KeepsOthers set.map before after
-    pub order : IsOrdered before → IsOrdered after
+    pub keeps : KeepsWell before after
+    pub open keeps use *
 
   abbrev pub Pops : Option ℕ → List Val → List Val → Type 0
   Pops None before after = TellsFirst None before after
@@ -125,11 +136,12 @@ module _ (set : OrderedSet) where
     pub only : (key : ℕ) → Contains keys key → is_in values key ≡ true
     pub rising : AllPairs (λ one other. one < other) keys
 
-  -- an empty set, in order, has got the objects behind those before
+  -- an empty set, in order, has got the objects behind those before, and each of its places and forks is free
   pub record Adds (before after : List Val) : Type 0 where
-    pub added : List Val
-    pub behind : after ≡ before ++ added
-    pub first : set.map.map.cells.first ≡ length before
-    pub count : length added ≡ 3 * set.map.map.cells.capacity + 1
+    pub cells : AddsCells set.map.map.cells.first (3 * set.map.map.cells.capacity + 1) before after
+    pub open cells use *
     pub empty : (key : ℕ) → is_in after key ≡ false
     pub order : IsOrdered after
+    pub free : (at : ℕ) → at < set.map.map.cells.capacity → key_at set.map.map after at ≡ None
+    pub forks : (at : ℕ) → at < set.map.map.cells.capacity →
+        (forks_in set.map.map.cells.first set.map.map.cells.capacity after at).1 ≡ 0

@@ -3,7 +3,7 @@ use Rattle.std.specs.Prelude.{◌≡◌, ◌≢◌, ◌⊎◌, ℕ, ◌+◌, ◌
 use Rattle.dstm_model.specs.declared.value.Val.{Val}
 use Rattle.dstm_model.specs.Map.{value_at}
 use Rattle.dstm_structures.specs.Maps.{keys_in}
-use Rattle.dstm_structures.specs.Orders.{Below, Has, HoldsIn, KeepsButForks, Trie, fork, forks_in, left_in, level_in, link_to, right_in, root_in, tip}
+use Rattle.dstm_structures.specs.Orders.{Below, Has, HoldsIn, IsBare, IsOrderedBy, KeepsButForks, Trie, fork, forks_in, left_in, level_in, link_to, right_in, root_in, tip}
 use Rattle.dstm_structures.specs.declared.cells.Rows.{Rows}
 use Rattle.dstm_structures.specs.declared.order.Fork.{Fork}
 
@@ -12,12 +12,34 @@ abbrev pub Uses : (cell : ℕ) → Trie → Type 0
 Uses cell (tip p k) = ⊥
 Uses cell (fork p j q l r) = (cell ≡ p) ⊎ (Uses cell l ⊎ Uses cell r)
 
+-- NO FORK IS WASTED: the cells are in order, and each fork's cell is free on which their trie does not stand
+abbrev pub WastesNoFork : (first n : ℕ) → List Val → Type 0
+WastesNoFork first n values =
+    (IsBare first n values × ((c : ℕ) → c < n → (forks_in first n values c).1 ≡ 0))
+    ⊎ ((t : Trie) × IsOrderedBy first n t values × ((c : ℕ) → c < n → (Uses c t → ⊥) → (forks_in first n values c).1 ≡ 0))
+
 -- a fork's cell tells a level, a prefix and two links
 pub record TellsFork (cell level prefix left right : ℕ) (forks : ℕ → ℕ × ℕ) : Type 0 where
   pub level_is : level_in (forks cell).1 ≡ level
   pub prefix_is : (forks cell).0 ≡ prefix
   pub left_is : left_in (forks cell).1 ≡ left
   pub right_is : right_in (forks cell).1 ≡ right
+
+-- a trie is another one with this tip, and stands on the same forks' cells and on this one
+pub record HasGained (key at cell under bits : ℕ) (t grown : Trie) : Type 0 where
+  pub below : Below under bits grown
+  pub there : Has at key grown
+  pub kept : (p k : ℕ) → Has p k t → Has p k grown
+  pub no_more : (p k : ℕ) → Has p k grown → Has p k t ⊎ ((p ≡ at) × (k ≡ key))
+  pub uses : (c : ℕ) → Uses c grown → Uses c t ⊎ (c ≡ cell)
+  pub used : (c : ℕ) → Uses c t ⊎ (c ≡ cell) → Uses c grown
+
+-- a trie is another one without this key
+pub record HasLost (key under bits : ℕ) (t rest : Trie) : Type 0 where
+  pub below : Below under bits rest
+  pub kept : (p k : ℕ) → Has p k t → k ≢ key → Has p k rest
+  pub no_more : (p k : ℕ) → Has p k rest → Has p k t × (k ≢ key)
+  pub uses : (c : ℕ) → Uses c rest → Uses c t
 
 module _ (cells : Rows) where
   -- the words of a fork's cell
@@ -89,11 +111,8 @@ module _ (cells : Rows) where
     pub grown : Trie
     pub is : link ≡ link_to grown
     pub held : HoldsIn cells.first cells.capacity after grown
-    pub below : Below under bits grown
-    pub there : Has at key grown
-    pub kept : (p k : ℕ) → Has p k t → Has p k grown
-    pub no_more : (p k : ℕ) → Has p k grown → Has p k t ⊎ ((p ≡ at) × (k ≡ key))
-    pub uses : (c : ℕ) → Uses c grown → Uses c t ⊎ (c ≡ cell)
+    pub more : HasGained key at cell under bits t grown
+    pub open more use *
     pub stays : (c : ℕ) → (Uses c t → ⊥) → c ≢ cell → words_at after c ≡ words_at before c
 
   -- A TIP IS ADDED below a link, by a fork in this cell where that is free; this link leads there now
@@ -117,6 +136,7 @@ module _ (cells : Rows) where
   -- A KEY IS ADDED TO THE ORDER, by a fork in this cell where that is free
   pub record AddsKey (key at cell : ℕ) (before after : List Val) : Type 0 where
     pub alone : root_in cells.first cells.capacity before ≡ 0 → root_in cells.first cells.capacity after ≡ 2 * at + 1
+    pub unforked : root_in cells.first cells.capacity before ≡ 0 → (c : ℕ) → words_at after c ≡ words_at before c
     pub gains : (t : Trie) → root_in cells.first cells.capacity before ≡ link_to t →
         HoldsIn cells.first cells.capacity before t → Below 64 0 t → ((p k : ℕ) → Has p k t → k ≢ key) →
         key_told before at ≡ Some key → (words_at before cell).1 ≡ 0 →
@@ -129,16 +149,16 @@ module _ (cells : Rows) where
   pub record LeavesNone (key at link : ℕ) (t : Trie) : Type 0 where
     pub is : link ≡ 0
     pub alone : (p k : ℕ) → Has p k t → (p ≡ at) × (k ≡ key)
+    pub bare : (c : ℕ) → Uses c t → ⊥
 
-  -- a trie has lost this tip, and keeps the others
+  -- a trie has lost this tip, and keeps the others; a fork's cell on which it does not stand any more is free
   pub record LeavesRest (key under bits link : ℕ) (t : Trie) (after : List Val) : Type 0 where
     pub rest : Trie
     pub is : link ≡ link_to rest
     pub held : HoldsIn cells.first cells.capacity after rest
-    pub below : Below under bits rest
-    pub kept : (p k : ℕ) → Has p k t → k ≢ key → Has p k rest
-    pub no_more : (p k : ℕ) → Has p k rest → Has p k t × (k ≢ key)
-    pub uses : (c : ℕ) → Uses c rest → Uses c t
+    pub less : HasLost key under bits t rest
+    pub open less use *
+    pub freed : (c : ℕ) → Uses c t → ((words_at after c).1 ≡ 0) ⊎ Uses c rest
 
   pub record Loses (key at under bits link : ℕ) (t : Trie) (before after : List Val) : Type 0 where
     pub left : LeavesNone key at link t ⊎ LeavesRest key under bits link t after

@@ -4,6 +4,7 @@
 
 mod between;
 mod cells;
+mod law;
 mod listing;
 mod looks;
 mod map;
@@ -14,6 +15,7 @@ mod set;
 mod tips;
 mod walks;
 
+pub use law::height_is_within_bits;
 pub use map::{HashMap, Placed};
 pub use ordered::OrderedMap;
 pub use queue::Queue;

@@ -1,9 +1,8 @@
 // What a map or a set has altogether: its items, and how many there are.
 ghost use Rattle.std.specs.Prelude.{◌≡◌, ◌<◌, ◌≤◌, List, false, true, if◌then◌else◌, is_some, IfErr, IfOk, OnOk};
-ghost use Rattle.dstm_cells.specs.Alternatives.{Notes, noting};
-ghost use Rattle.dstm_cells.specs.UnderWay.{Keeps, MayBegin};
+ghost use Rattle.dstm_cells.specs.UnderWay.{MayBegin};
 ghost use Rattle.dstm_model.specs.declared.value.Val.{Val};
-ghost use Rattle.dstm_structures.specs.Effects.{Does, Stops};
+ghost use Rattle.dstm_structures.specs.Effects.{Does, GoesOn, Stops};
 ghost use Rattle.dstm_structures.specs.Items.{Counts, Lists, ListsInOrder, Stands, if_above};
 ghost use Rattle.dstm_structures.specs.Maps.{end_of};
 ghost use Rattle.dstm_structures.specs.Orders.{order_end};
@@ -19,10 +18,8 @@ use std::alloc::Global;
 impl<V: Word> HashMap<V> {
     /// How many keys there are. It looks at each place, and so any change of a key comes into its way.
     pub fn len<L: Law>(self, tx: &mut Tx<'_, L>) -> Result<u32, Stop>
-        ensures keeps { Keeps tx.old.attempts.caller tx.new.attempts.caller }
-        ensures notes { Notes L.holds (noting tx.old) (noting tx.new) }
-        ensures stops { IfErr result (λ stop. Stops (end_of self) false
-            tx.old.attempts.caller tx.new.attempts.caller stop.why) }
+        ensures goes { GoesOn L.holds tx.old tx.new }
+        ensures stops { IfErr result (λ stop. Stops (end_of self) false tx.old tx.new stop.why) }
         ensures counts { IfOk result (λ count. Does L.holds (end_of self) (Counts V.found self count)
             tx.old.attempts.caller tx.new.attempts.caller) }
         ensures may { OnOk result ((map : List Val) × MayBegin L.holds tx.new.attempts.caller map) }
@@ -37,10 +34,8 @@ impl<V: Word> HashMap<V> {
 
     /// All keys with their values, in no order. It looks at each place, as `len` does.
     pub fn to_vec<L: Law>(self, tx: &mut Tx<'_, L>, alloc: Global) -> Result<Vec<(u64, V)>, Stop>
-        ensures keeps { Keeps tx.old.attempts.caller tx.new.attempts.caller }
-        ensures notes { Notes L.holds (noting tx.old) (noting tx.new) }
-        ensures stops { IfErr result (λ stop. Stops (end_of self) true
-            tx.old.attempts.caller tx.new.attempts.caller stop.why) }
+        ensures goes { GoesOn L.holds tx.old tx.new }
+        ensures stops { IfErr result (λ stop. Stops (end_of self) true tx.old tx.new stop.why) }
         ensures lists { IfOk result (λ items. Does L.holds (end_of self) (Lists V.found self items.items)
             tx.old.attempts.caller tx.new.attempts.caller) }
         ensures may { OnOk result ((map : List Val) × MayBegin L.holds tx.new.attempts.caller map) }
@@ -52,10 +47,8 @@ impl<V: Word> HashMap<V> {
     // The key that is found at a place, if one is.
     fn stands<L: Law>(self, tx: &mut Tx<'_, L>, at: u32) -> Result<Option<u64>, Stop>
         requires { at < self.cells.capacity }
-        ensures keeps { Keeps tx.old.attempts.caller tx.new.attempts.caller }
-        ensures notes { Notes L.holds (noting tx.old) (noting tx.new) }
-        ensures stops { IfErr result (λ stop. Stops (end_of self) false
-            tx.old.attempts.caller tx.new.attempts.caller stop.why) }
+        ensures goes { GoesOn L.holds tx.old tx.new }
+        ensures stops { IfErr result (λ stop. Stops (end_of self) false tx.old tx.new stop.why) }
         ensures stands { IfOk result (λ key. Does L.holds (end_of self) (Stands self at key)
             tx.old.attempts.caller tx.new.attempts.caller) }
         ensures may { OnOk result ((map : List Val) × MayBegin L.holds tx.new.attempts.caller map) }
@@ -68,10 +61,8 @@ impl<V: Word> HashMap<V> {
 impl<V: Word> OrderedMap<V> {
     /// How many keys there are. It looks at each place, and so any change of a key comes into its way.
     pub fn len<L: Law>(self, tx: &mut Tx<'_, L>) -> Result<u32, Stop>
-        ensures keeps { Keeps tx.old.attempts.caller tx.new.attempts.caller }
-        ensures notes { Notes L.holds (noting tx.old) (noting tx.new) }
-        ensures stops { IfErr result (λ stop. Stops (end_of self.map) false
-            tx.old.attempts.caller tx.new.attempts.caller stop.why) }
+        ensures goes { GoesOn L.holds tx.old tx.new }
+        ensures stops { IfErr result (λ stop. Stops (end_of self.map) false tx.old tx.new stop.why) }
         ensures counts { IfOk result (λ count. Does L.holds (end_of self.map) (Counts V.found self.map count)
             tx.old.attempts.caller tx.new.attempts.caller) }
         ensures may { OnOk result ((map : List Val) × MayBegin L.holds tx.new.attempts.caller map) }
@@ -81,10 +72,8 @@ impl<V: Word> OrderedMap<V> {
 
     /// All keys with their values, in the order of the keys.
     pub fn to_vec<L: Law>(self, tx: &mut Tx<'_, L>, alloc: Global) -> Result<Vec<(u64, V)>, Stop>
-        ensures keeps { Keeps tx.old.attempts.caller tx.new.attempts.caller }
-        ensures notes { Notes L.holds (noting tx.old) (noting tx.new) }
-        ensures stops { IfErr result (λ stop. Stops (order_end self.map.cells) true
-            tx.old.attempts.caller tx.new.attempts.caller stop.why) }
+        ensures goes { GoesOn L.holds tx.old tx.new }
+        ensures stops { IfErr result (λ stop. Stops (order_end self.map.cells) true tx.old tx.new stop.why) }
         ensures lists { IfOk result (λ items. Does L.holds (order_end self.map.cells) (ListsInOrder V.found self items.items)
             tx.old.attempts.caller tx.new.attempts.caller) }
         ensures may { OnOk result ((map : List Val) × MayBegin L.holds tx.new.attempts.caller map) }
@@ -103,10 +92,8 @@ impl<V: Word> OrderedMap<V> {
 impl OrderedSet {
     /// How many keys are in the set. It looks at each place, as `HashMap::len` does.
     pub fn len<L: Law>(self, tx: &mut Tx<'_, L>) -> Result<u32, Stop>
-        ensures keeps { Keeps tx.old.attempts.caller tx.new.attempts.caller }
-        ensures notes { Notes L.holds (noting tx.old) (noting tx.new) }
-        ensures stops { IfErr result (λ stop. Stops (end_of self.map.map) false
-            tx.old.attempts.caller tx.new.attempts.caller stop.why) }
+        ensures goes { GoesOn L.holds tx.old tx.new }
+        ensures stops { IfErr result (λ stop. Stops (end_of self.map.map) false tx.old tx.new stop.why) }
         ensures counts { IfOk result (λ count. Does L.holds (end_of self.map.map) (sets.Counts self count)
             tx.old.attempts.caller tx.new.attempts.caller) }
         ensures may { OnOk result ((map : List Val) × MayBegin L.holds tx.new.attempts.caller map) }

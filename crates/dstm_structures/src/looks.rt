@@ -1,10 +1,9 @@
 // Looks at the cells of a map: by a transaction under way, or between runs.
 ghost use Rattle.std.specs.Prelude.{◌≡◌, ◌<◌, ℕ, Bool, List, length, false, true, IfErr, IfOk, OnOk};
-ghost use Rattle.dstm_cells.specs.Alternatives.{noting};
 ghost use Rattle.dstm_model.specs.Map.{value_at};
 ghost use Rattle.dstm_model.specs.declared.value.Val.{Val};
 ghost use Rattle.dstm_structures.specs.Effects.{Stops};
-ghost use Rattle.dstm_structures.specs.Looks.{GoesOn, Shows, StandsAt, StandsSomewhere};
+ghost use Rattle.dstm_structures.specs.Looks.{OnlyLooks, Shows, StandsAt, StandsSomewhere};
 
 use dstm_cells::{Cell, Failed, Memory, Stop, Tx, Word};
 use dstm_model::Law;
@@ -49,15 +48,15 @@ pub(crate) trait Looks {
 }
 
 impl<L: Law> Looks for Tx<'_, L> {
-    ghost use Rattle.dstm_structures.specs.Looks.{goes-again, goes-narrows, goes-still, goes-stops, stops-listing};
+    ghost use Rattle.dstm_structures.specs.Looks.{looks-again, looks-narrow, looks-still, stops-later, stops-listing};
 
     type Err = Stop;
 
-    ghost Stands = { λ tx. StandsAt L.holds (noting tx) };
+    ghost Stands = { λ tx. StandsAt L.holds tx };
 
-    ghost Stays = { λ old new. GoesOn L.holds (noting old) (noting new) };
+    ghost Stays = { λ old new. OnlyLooks L.holds old new };
 
-    ghost Fails = { λ lists size old new stop. Stops size lists old.attempts.caller new.attempts.caller stop.why };
+    ghost Fails = { λ lists size old new stop. Stops size lists old new stop.why };
 
     fn look<T: Word>(&mut self, cell: Cell<T>) -> Result<T, Stop> {
         let value = self.get(cell)?;
@@ -68,15 +67,15 @@ impl<L: Law> Looks for Tx<'_, L> {
         Stop::from(error)
     }
 
-    ghost still = { λ k. goes-still L.holds (noting k) };
+    ghost still = { λ k. looks-still L.holds k };
 
-    ghost again = { λ k m n. goes-again L.holds (noting k) (noting m) (noting n) };
+    ghost again = { λ k m n. looks-again L.holds k m n };
 
-    ghost narrows = { λ k n. goes-narrows L.holds (noting k) (noting n) };
+    ghost narrows = { λ k n. looks-narrow L.holds k n };
 
-    ghost fails_later = { λ lists size k m n stop. goes-stops L.holds lists size (noting k) (noting m) (noting n) stop.why };
+    ghost fails_later = { λ lists size k m n stop. stops-later L.holds lists size k m n stop.why };
 
-    ghost fails_listing = { λ size k n stop. stops-listing L.holds size (noting k) (noting n) stop.why };
+    ghost fails_listing = { λ size k n stop. stops-listing L.holds size k n stop.why };
 }
 
 // A memory between runs.

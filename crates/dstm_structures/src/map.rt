@@ -1,10 +1,10 @@
 // A hash map in the cells of a memory.
 ghost use Rattle.std.specs.Prelude.{◌≡◌, ◌⊎◌, ◌↔◌, ◌+◌, ◌*◌, ◌<◌, ◌≤◌, List, false, length, Err, IfErr, IfOk, IfSome, OnOk};
-ghost use Rattle.dstm_cells.specs.Alternatives.{Notes, noting};
-ghost use Rattle.dstm_cells.specs.UnderWay.{Keeps, MayBegin};
+ghost use Rattle.dstm_cells.specs.Cells.{WantsRoom};
+ghost use Rattle.dstm_cells.specs.UnderWay.{MayBegin};
 ghost use Rattle.dstm_cells.specs.declared.error.Failed.TheVariants as failed;
 ghost use Rattle.dstm_model.specs.declared.value.Val.{Val};
-ghost use Rattle.dstm_structures.specs.Effects.{Does, StillMay, Stops};
+ghost use Rattle.dstm_structures.specs.Effects.{Does, GoesOn, StillMay, Stops};
 ghost use Rattle.dstm_structures.specs.Maps.{Adds, ClearsAll, Empties, Frees, Inserts, Puts, Reaches, Removes, Seeks, SetsKey, SetsReach, Stores, Tells, TellsIf, end_of, home_in, outcome};
 ghost use Rattle.dstm_structures.specs.Places.{is_free, is_key};
 
@@ -37,8 +37,7 @@ impl<V: Word> HashMap<V> {
         ensures adds { IfOk result (λ map. Adds V.found map memory.old.values.items memory.new.values.items) }
         ensures capacity { IfOk result (λ map. map.cells.capacity ≡ capacity) }
         ensures full { result ≡ Err failed.Full ↔ (capacity ≡ 0) ⊎ (524288 < length memory.old.values.items + 2 * capacity) }
-        ensures fails { IfErr result (λ why. (memory.new.values.items ≡ memory.old.values.items)
-            × ((why ≡ failed.Full) ⊎ (why ≡ failed.Memory))) }
+        ensures fails { IfErr result (λ why. (memory.new.values.items ≡ memory.old.values.items) × WantsRoom why) }
         ensures engine { memory.new.engine ≡ memory.old.engine }
         ensures law { memory.new.law ≡ memory.old.law }
     {
@@ -65,10 +64,8 @@ impl<V: Word> HashMap<V> {
 
     /// The value of a key, if it is there.
     pub fn get<L: Law>(self, tx: &mut Tx<'_, L>, key: u64) -> Result<Option<V>, Stop>
-        ensures keeps { Keeps tx.old.attempts.caller tx.new.attempts.caller }
-        ensures notes { Notes L.holds (noting tx.old) (noting tx.new) }
-        ensures stops { IfErr result (λ stop. Stops (end_of self) false
-            tx.old.attempts.caller tx.new.attempts.caller stop.why) }
+        ensures goes { GoesOn L.holds tx.old tx.new }
+        ensures stops { IfErr result (λ stop. Stops (end_of self) false tx.old tx.new stop.why) }
         ensures tells { IfOk result (λ answer. Does L.holds (end_of self) (Tells V.found self key answer)
             tx.old.attempts.caller tx.new.attempts.caller) }
         ensures may { OnOk result ((map : List Val) × MayBegin L.holds tx.new.attempts.caller map) }
@@ -79,10 +76,8 @@ impl<V: Word> HashMap<V> {
 
     /// Tells whether a key is there.
     pub fn contains<L: Law>(self, tx: &mut Tx<'_, L>, key: u64) -> Result<bool, Stop>
-        ensures keeps { Keeps tx.old.attempts.caller tx.new.attempts.caller }
-        ensures notes { Notes L.holds (noting tx.old) (noting tx.new) }
-        ensures stops { IfErr result (λ stop. Stops (end_of self) false
-            tx.old.attempts.caller tx.new.attempts.caller stop.why) }
+        ensures goes { GoesOn L.holds tx.old tx.new }
+        ensures stops { IfErr result (λ stop. Stops (end_of self) false tx.old tx.new stop.why) }
         ensures tells { IfOk result (λ answer. Does L.holds (end_of self) (TellsIf V.found self key answer)
             tx.old.attempts.caller tx.new.attempts.caller) }
         ensures may { OnOk result ((map : List Val) × MayBegin L.holds tx.new.attempts.caller map) }
@@ -93,10 +88,8 @@ impl<V: Word> HashMap<V> {
 
     /// Gives a key this value, and adds the key where it is not there.
     pub fn put<L: Law>(self, tx: &mut Tx<'_, L>, key: u64, value: V) -> Result<Placed<V>, Stop>
-        ensures keeps { Keeps tx.old.attempts.caller tx.new.attempts.caller }
-        ensures notes { Notes L.holds (noting tx.old) (noting tx.new) }
-        ensures stops { IfErr result (λ stop. Stops (end_of self) tx.old.notes
-            tx.old.attempts.caller tx.new.attempts.caller stop.why) }
+        ensures goes { GoesOn L.holds tx.old tx.new }
+        ensures stops { IfErr result (λ stop. Stops (end_of self) tx.old.notes tx.old tx.new stop.why) }
         ensures puts { IfOk result (λ placed. Does L.holds (end_of self) (Puts V.found self key value placed)
             tx.old.attempts.caller tx.new.attempts.caller) }
         ensures may { OnOk result ((map : List Val) × MayBegin L.holds tx.new.attempts.caller map) }
@@ -112,10 +105,8 @@ impl<V: Word> HashMap<V> {
 
     /// Takes a key out, and answers its value, if it is there.
     pub fn remove<L: Law>(self, tx: &mut Tx<'_, L>, key: u64) -> Result<Option<V>, Stop>
-        ensures keeps { Keeps tx.old.attempts.caller tx.new.attempts.caller }
-        ensures notes { Notes L.holds (noting tx.old) (noting tx.new) }
-        ensures stops { IfErr result (λ stop. Stops (end_of self) tx.old.notes
-            tx.old.attempts.caller tx.new.attempts.caller stop.why) }
+        ensures goes { GoesOn L.holds tx.old tx.new }
+        ensures stops { IfErr result (λ stop. Stops (end_of self) tx.old.notes tx.old tx.new stop.why) }
         ensures removes { IfOk result (λ removed. Does L.holds (end_of self) (Removes V.found self key removed)
             tx.old.attempts.caller tx.new.attempts.caller) }
         ensures may { OnOk result ((map : List Val) × MayBegin L.holds tx.new.attempts.caller map) }
@@ -140,10 +131,8 @@ impl<V: Word> HashMap<V> {
 
     // The place of a key, if it is there.
     pub(crate) fn find<L: Law>(self, tx: &mut Tx<'_, L>, key: u64) -> Result<Option<u32>, Stop>
-        ensures keeps { Keeps tx.old.attempts.caller tx.new.attempts.caller }
-        ensures notes { Notes L.holds (noting tx.old) (noting tx.new) }
-        ensures stops { IfErr result (λ stop. Stops (end_of self) false
-            tx.old.attempts.caller tx.new.attempts.caller stop.why) }
+        ensures goes { GoesOn L.holds tx.old tx.new }
+        ensures stops { IfErr result (λ stop. Stops (end_of self) false tx.old tx.new stop.why) }
         ensures within { IfOk result (λ place. IfSome place (λ at. at < self.cells.capacity)) }
         ensures seeks { IfOk result (λ place. Does L.holds (end_of self) (Seeks self key place)
             tx.old.attempts.caller tx.new.attempts.caller) }
@@ -160,10 +149,8 @@ impl<V: Word> HashMap<V> {
         key: u64,
         value: V,
     ) -> Result<Option<u32>, Stop>
-        ensures keeps { Keeps tx.old.attempts.caller tx.new.attempts.caller }
-        ensures notes { Notes L.holds (noting tx.old) (noting tx.new) }
-        ensures stops { IfErr result (λ stop. Stops (end_of self) tx.old.notes
-            tx.old.attempts.caller tx.new.attempts.caller stop.why) }
+        ensures goes { GoesOn L.holds tx.old tx.new }
+        ensures stops { IfErr result (λ stop. Stops (end_of self) tx.old.notes tx.old tx.new stop.why) }
         ensures within { IfOk result (λ place. IfSome place (λ at. at < self.cells.capacity)) }
         ensures inserts { IfOk result (λ place. Does L.holds (end_of self) (Inserts V.found self key value place)
             tx.old.attempts.caller tx.new.attempts.caller) }
@@ -187,10 +174,8 @@ impl<V: Word> HashMap<V> {
     // How far behind a home the first place is that is free for its keys, which are looked for at so many places.
     fn free<L: Law>(self, tx: &mut Tx<'_, L>, home: u32, reach: u32) -> Result<Option<u32>, Stop>
         requires { home < self.cells.capacity }
-        ensures keeps { Keeps tx.old.attempts.caller tx.new.attempts.caller }
-        ensures notes { Notes L.holds (noting tx.old) (noting tx.new) }
-        ensures stops { IfErr result (λ stop. Stops (end_of self) false
-            tx.old.attempts.caller tx.new.attempts.caller stop.why) }
+        ensures goes { GoesOn L.holds tx.old tx.new }
+        ensures stops { IfErr result (λ stop. Stops (end_of self) false tx.old tx.new stop.why) }
         ensures within { IfOk result (λ free. IfSome free (λ passed. passed < self.cells.capacity)) }
         ensures frees { IfOk result (λ free. Does L.holds (end_of self) (Frees self home reach free)
             tx.old.attempts.caller tx.new.attempts.caller) }
@@ -209,10 +194,8 @@ impl<V: Word> HashMap<V> {
     // Puts a key with its value into a place.
     fn store<L: Law>(self, tx: &mut Tx<'_, L>, at: u32, key: u64, value: V) -> Result<(), Stop>
         requires { at < self.cells.capacity }
-        ensures keeps { Keeps tx.old.attempts.caller tx.new.attempts.caller }
-        ensures notes { Notes L.holds (noting tx.old) (noting tx.new) }
-        ensures stops { IfErr result (λ stop. Stops (end_of self) tx.old.notes
-            tx.old.attempts.caller tx.new.attempts.caller stop.why) }
+        ensures goes { GoesOn L.holds tx.old tx.new }
+        ensures stops { IfErr result (λ stop. Stops (end_of self) tx.old.notes tx.old tx.new stop.why) }
         ensures stores { OnOk result (Does L.holds (end_of self) (Stores V.found self at key value)
             tx.old.attempts.caller tx.new.attempts.caller) }
         ensures may { OnOk result ((map : List Val) × MayBegin L.holds tx.new.attempts.caller map) }
@@ -225,10 +208,8 @@ impl<V: Word> HashMap<V> {
     // Sets the key of a place.
     fn set_key<L: Law>(self, tx: &mut Tx<'_, L>, at: u32, key: Option<u64>) -> Result<(), Stop>
         requires { at < self.cells.capacity }
-        ensures keeps { Keeps tx.old.attempts.caller tx.new.attempts.caller }
-        ensures notes { Notes L.holds (noting tx.old) (noting tx.new) }
-        ensures stops { IfErr result (λ stop. Stops (end_of self) tx.old.notes
-            tx.old.attempts.caller tx.new.attempts.caller stop.why) }
+        ensures goes { GoesOn L.holds tx.old tx.new }
+        ensures stops { IfErr result (λ stop. Stops (end_of self) tx.old.notes tx.old tx.new stop.why) }
         ensures sets { OnOk result (Does L.holds (end_of self) (SetsKey self at key)
             tx.old.attempts.caller tx.new.attempts.caller) }
         ensures may { OnOk result ((map : List Val) × MayBegin L.holds tx.new.attempts.caller map) }
@@ -241,10 +222,8 @@ impl<V: Word> HashMap<V> {
     fn set_reach<L: Law>(self, tx: &mut Tx<'_, L>, home: u32, far: u32) -> Result<(), Stop>
         requires home { home < self.cells.capacity }
         requires far { far ≤ self.cells.capacity }
-        ensures keeps { Keeps tx.old.attempts.caller tx.new.attempts.caller }
-        ensures notes { Notes L.holds (noting tx.old) (noting tx.new) }
-        ensures stops { IfErr result (λ stop. Stops (end_of self) tx.old.notes
-            tx.old.attempts.caller tx.new.attempts.caller stop.why) }
+        ensures goes { GoesOn L.holds tx.old tx.new }
+        ensures stops { IfErr result (λ stop. Stops (end_of self) tx.old.notes tx.old tx.new stop.why) }
         ensures sets { OnOk result (Does L.holds (end_of self) (SetsReach self home far)
             tx.old.attempts.caller tx.new.attempts.caller) }
         ensures may { OnOk result ((map : List Val) × MayBegin L.holds tx.new.attempts.caller map) }
@@ -255,10 +234,8 @@ impl<V: Word> HashMap<V> {
 
     // Takes a key out of each place at which it is looked for.
     pub(crate) fn clear<L: Law>(self, tx: &mut Tx<'_, L>, key: u64) -> Result<(), Stop>
-        ensures keeps { Keeps tx.old.attempts.caller tx.new.attempts.caller }
-        ensures notes { Notes L.holds (noting tx.old) (noting tx.new) }
-        ensures stops { IfErr result (λ stop. Stops (end_of self) tx.old.notes
-            tx.old.attempts.caller tx.new.attempts.caller stop.why) }
+        ensures goes { GoesOn L.holds tx.old tx.new }
+        ensures stops { IfErr result (λ stop. Stops (end_of self) tx.old.notes tx.old tx.new stop.why) }
         ensures clears { OnOk result (Does L.holds (end_of self) (ClearsAll self key)
             tx.old.attempts.caller tx.new.attempts.caller) }
         ensures may { OnOk result ((map : List Val) × MayBegin L.holds tx.new.attempts.caller map) }
@@ -274,10 +251,8 @@ impl<V: Word> HashMap<V> {
     // Takes a key out of a place, if it stands there.
     fn empty<L: Law>(self, tx: &mut Tx<'_, L>, at: u32, key: u64) -> Result<(), Stop>
         requires { at < self.cells.capacity }
-        ensures keeps { Keeps tx.old.attempts.caller tx.new.attempts.caller }
-        ensures notes { Notes L.holds (noting tx.old) (noting tx.new) }
-        ensures stops { IfErr result (λ stop. Stops (end_of self) tx.old.notes
-            tx.old.attempts.caller tx.new.attempts.caller stop.why) }
+        ensures goes { GoesOn L.holds tx.old tx.new }
+        ensures stops { IfErr result (λ stop. Stops (end_of self) tx.old.notes tx.old tx.new stop.why) }
         ensures empties { OnOk result (Does L.holds (end_of self) (Empties self at key)
             tx.old.attempts.caller tx.new.attempts.caller) }
         ensures may { OnOk result ((map : List Val) × MayBegin L.holds tx.new.attempts.caller map) }
@@ -293,10 +268,8 @@ impl<V: Word> HashMap<V> {
     // At how many places keys of this home are looked for.
     fn reach<L: Law>(self, tx: &mut Tx<'_, L>, home: u32) -> Result<u32, Stop>
         requires { home < self.cells.capacity }
-        ensures keeps { Keeps tx.old.attempts.caller tx.new.attempts.caller }
-        ensures notes { Notes L.holds (noting tx.old) (noting tx.new) }
-        ensures stops { IfErr result (λ stop. Stops (end_of self) false
-            tx.old.attempts.caller tx.new.attempts.caller stop.why) }
+        ensures goes { GoesOn L.holds tx.old tx.new }
+        ensures stops { IfErr result (λ stop. Stops (end_of self) false tx.old tx.new stop.why) }
         ensures most { IfOk result (λ reach. reach ≤ self.cells.capacity) }
         ensures reaches { IfOk result (λ reach. Does L.holds (end_of self) (Reaches self home reach)
             tx.old.attempts.caller tx.new.attempts.caller) }

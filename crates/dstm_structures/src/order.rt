@@ -1,10 +1,9 @@
 // The order of a map's keys: a trie of their bits, in cells of its own. Its tips are places of the map, and each fork stands in
 // a cell and parts the keys below it by one bit.
 ghost use Rattle.std.specs.Prelude.{◌≡◌, ◌+◌, ◌*◌, ◌<◌, ◌≤◌, List, false, if◌then◌else◌, IfErr, IfOk, IfSome, OnOk};
-ghost use Rattle.dstm_cells.specs.Alternatives.{Notes, noting};
-ghost use Rattle.dstm_cells.specs.UnderWay.{Keeps, MayBegin};
+ghost use Rattle.dstm_cells.specs.UnderWay.{MayBegin};
 ghost use Rattle.dstm_model.specs.declared.value.Val.{Val};
-ghost use Rattle.dstm_structures.specs.Effects.{Does, StillMay, Stops};
+ghost use Rattle.dstm_structures.specs.Effects.{Does, GoesOn, StillMay, Stops};
 ghost use Rattle.dstm_structures.specs.Orders.{Ends, EndsAll, Follows, FollowsAll, IsInside, is_above, left_in, level_in, link_in, order_end, right_in};
 
 use crate::cells::{Rows, cell};
@@ -93,10 +92,8 @@ pub(crate) fn to_fork(at: u32) -> u64
 impl Order {
     // The place of the least key, or of the greatest one.
     pub(crate) fn end<L: Law>(self, tx: &mut Tx<'_, L>, greatest: bool) -> Result<Option<u32>, Stop>
-        ensures keeps { Keeps tx.old.attempts.caller tx.new.attempts.caller }
-        ensures notes { Notes L.holds (noting tx.old) (noting tx.new) }
-        ensures stops { IfErr result (λ stop. Stops (order_end self.cells) false
-            tx.old.attempts.caller tx.new.attempts.caller stop.why) }
+        ensures goes { GoesOn L.holds tx.old tx.new }
+        ensures stops { IfErr result (λ stop. Stops (order_end self.cells) false tx.old tx.new stop.why) }
         ensures within { IfOk result (λ place. IfSome place (λ at. at < self.cells.capacity)) }
         ensures ends { IfOk result (λ place. Does L.holds (order_end self.cells) (EndsAll self.cells greatest place)
             tx.old.attempts.caller tx.new.attempts.caller) }
@@ -109,10 +106,8 @@ impl Order {
 
     // The place of the least key above this one.
     pub(crate) fn next<L: Law>(self, tx: &mut Tx<'_, L>, key: u64) -> Result<Option<u32>, Stop>
-        ensures keeps { Keeps tx.old.attempts.caller tx.new.attempts.caller }
-        ensures notes { Notes L.holds (noting tx.old) (noting tx.new) }
-        ensures stops { IfErr result (λ stop. Stops (order_end self.cells) false
-            tx.old.attempts.caller tx.new.attempts.caller stop.why) }
+        ensures goes { GoesOn L.holds tx.old tx.new }
+        ensures stops { IfErr result (λ stop. Stops (order_end self.cells) false tx.old tx.new stop.why) }
         ensures within { IfOk result (λ place. IfSome place (λ at. at < self.cells.capacity)) }
         ensures follows { IfOk result (λ place. Does L.holds (order_end self.cells) (FollowsAll self.cells key place)
             tx.old.attempts.caller tx.new.attempts.caller) }
@@ -132,10 +127,8 @@ impl Order {
         greatest: bool,
     ) -> Result<Option<u32>, Stop>
         requires { under ≤ 64 }
-        ensures keeps { Keeps tx.old.attempts.caller tx.new.attempts.caller }
-        ensures notes { Notes L.holds (noting tx.old) (noting tx.new) }
-        ensures stops { IfErr result (λ stop. Stops (order_end self.cells) false
-            tx.old.attempts.caller tx.new.attempts.caller stop.why) }
+        ensures goes { GoesOn L.holds tx.old tx.new }
+        ensures stops { IfErr result (λ stop. Stops (order_end self.cells) false tx.old tx.new stop.why) }
         ensures within { IfOk result (λ place. IfSome place (λ at. at < self.cells.capacity)) }
         ensures ends { IfOk result (λ place. Does L.holds (order_end self.cells) (Ends self.cells greatest link under place)
             tx.old.attempts.caller tx.new.attempts.caller) }
@@ -164,10 +157,8 @@ impl Order {
         key: u64,
     ) -> Result<Option<u32>, Stop>
         requires { under ≤ 64 }
-        ensures keeps { Keeps tx.old.attempts.caller tx.new.attempts.caller }
-        ensures notes { Notes L.holds (noting tx.old) (noting tx.new) }
-        ensures stops { IfErr result (λ stop. Stops (order_end self.cells) false
-            tx.old.attempts.caller tx.new.attempts.caller stop.why) }
+        ensures goes { GoesOn L.holds tx.old tx.new }
+        ensures stops { IfErr result (λ stop. Stops (order_end self.cells) false tx.old tx.new stop.why) }
         ensures within { IfOk result (λ place. IfSome place (λ at. at < self.cells.capacity)) }
         ensures follows { IfOk result (λ place. Does L.holds (order_end self.cells) (Follows self.cells key link under place)
             tx.old.attempts.caller tx.new.attempts.caller) }

@@ -1,10 +1,10 @@
 // An ordered map in the cells of a memory.
 ghost use Rattle.std.specs.Prelude.{◌≡◌, ◌⊎◌, ◌↔◌, ◌+◌, ◌*◌, ◌<◌, ◌≤◌, List, false, length, Err, IfErr, IfOk, IfSome, OnOk};
-ghost use Rattle.dstm_cells.specs.Alternatives.{Notes, noting};
-ghost use Rattle.dstm_cells.specs.UnderWay.{Keeps, MayBegin};
+ghost use Rattle.dstm_cells.specs.Cells.{WantsRoom};
+ghost use Rattle.dstm_cells.specs.UnderWay.{MayBegin};
 ghost use Rattle.dstm_cells.specs.declared.error.Failed.TheVariants as failed;
 ghost use Rattle.dstm_model.specs.declared.value.Val.{Val};
-ghost use Rattle.dstm_structures.specs.Effects.{Does, StillMay, Stops};
+ghost use Rattle.dstm_structures.specs.Effects.{Does, GoesOn, StillMay, Stops};
 ghost use Rattle.dstm_structures.specs.Maps.{Tells, TellsIf, end_of};
 ghost use Rattle.dstm_structures.specs.Ordered.{Adding, Adds, Looks, Pops, Puts, Removes, Takes, TellsAbove, TellsEnd, TellsFirst, TellsLast};
 ghost use Rattle.dstm_structures.specs.Orders.{order_end};
@@ -33,8 +33,7 @@ impl<V: Word> OrderedMap<V> {
         ensures adds { IfOk result (λ map. Adds V.found map memory.old.values.items memory.new.values.items) }
         ensures capacity { IfOk result (λ map. map.map.cells.capacity ≡ capacity) }
         ensures full { result ≡ Err failed.Full ↔ (capacity ≡ 0) ⊎ (524288 < length memory.old.values.items + 3 * capacity + 1) }
-        ensures fails { IfErr result (λ why. (memory.new.values.items ≡ memory.old.values.items)
-            × ((why ≡ failed.Full) ⊎ (why ≡ failed.Memory))) }
+        ensures fails { IfErr result (λ why. (memory.new.values.items ≡ memory.old.values.items) × WantsRoom why) }
         ensures engine { memory.new.engine ≡ memory.old.engine }
         ensures law { memory.new.law ≡ memory.old.law }
     {
@@ -60,10 +59,8 @@ impl<V: Word> OrderedMap<V> {
 
     /// The value of a key, if it is there. It reads what a `HashMap` reads.
     pub fn get<L: Law>(self, tx: &mut Tx<'_, L>, key: u64) -> Result<Option<V>, Stop>
-        ensures keeps { Keeps tx.old.attempts.caller tx.new.attempts.caller }
-        ensures notes { Notes L.holds (noting tx.old) (noting tx.new) }
-        ensures stops { IfErr result (λ stop. Stops (end_of self.map) false
-            tx.old.attempts.caller tx.new.attempts.caller stop.why) }
+        ensures goes { GoesOn L.holds tx.old tx.new }
+        ensures stops { IfErr result (λ stop. Stops (end_of self.map) false tx.old tx.new stop.why) }
         ensures tells { IfOk result (λ answer. Does L.holds (end_of self.map) (Tells V.found self.map key answer)
             tx.old.attempts.caller tx.new.attempts.caller) }
         ensures may { OnOk result ((map : List Val) × MayBegin L.holds tx.new.attempts.caller map) }
@@ -73,10 +70,8 @@ impl<V: Word> OrderedMap<V> {
 
     /// Tells whether a key is there.
     pub fn contains<L: Law>(self, tx: &mut Tx<'_, L>, key: u64) -> Result<bool, Stop>
-        ensures keeps { Keeps tx.old.attempts.caller tx.new.attempts.caller }
-        ensures notes { Notes L.holds (noting tx.old) (noting tx.new) }
-        ensures stops { IfErr result (λ stop. Stops (end_of self.map) false
-            tx.old.attempts.caller tx.new.attempts.caller stop.why) }
+        ensures goes { GoesOn L.holds tx.old tx.new }
+        ensures stops { IfErr result (λ stop. Stops (end_of self.map) false tx.old tx.new stop.why) }
         ensures tells { IfOk result (λ answer. Does L.holds (end_of self.map) (TellsIf V.found self.map key answer)
             tx.old.attempts.caller tx.new.attempts.caller) }
         ensures may { OnOk result ((map : List Val) × MayBegin L.holds tx.new.attempts.caller map) }
@@ -86,10 +81,8 @@ impl<V: Word> OrderedMap<V> {
 
     /// Gives a key this value, and adds the key where it is not there. Where it is there, nothing of the order is read.
     pub fn put<L: Law>(self, tx: &mut Tx<'_, L>, key: u64, value: V) -> Result<Placed<V>, Stop>
-        ensures keeps { Keeps tx.old.attempts.caller tx.new.attempts.caller }
-        ensures notes { Notes L.holds (noting tx.old) (noting tx.new) }
-        ensures stops { IfErr result (λ stop. Stops (order_end self.map.cells) tx.old.notes
-            tx.old.attempts.caller tx.new.attempts.caller stop.why) }
+        ensures goes { GoesOn L.holds tx.old tx.new }
+        ensures stops { IfErr result (λ stop. Stops (order_end self.map.cells) tx.old.notes tx.old tx.new stop.why) }
         ensures puts { IfOk result (λ placed. Does L.holds (order_end self.map.cells) (Puts V.found self key value placed)
             tx.old.attempts.caller tx.new.attempts.caller) }
         ensures may { OnOk result ((map : List Val) × MayBegin L.holds tx.new.attempts.caller map) }
@@ -105,10 +98,8 @@ impl<V: Word> OrderedMap<V> {
 
     /// Takes a key out, and answers its value, if it is there.
     pub fn remove<L: Law>(self, tx: &mut Tx<'_, L>, key: u64) -> Result<Option<V>, Stop>
-        ensures keeps { Keeps tx.old.attempts.caller tx.new.attempts.caller }
-        ensures notes { Notes L.holds (noting tx.old) (noting tx.new) }
-        ensures stops { IfErr result (λ stop. Stops (order_end self.map.cells) tx.old.notes
-            tx.old.attempts.caller tx.new.attempts.caller stop.why) }
+        ensures goes { GoesOn L.holds tx.old tx.new }
+        ensures stops { IfErr result (λ stop. Stops (order_end self.map.cells) tx.old.notes tx.old tx.new stop.why) }
         ensures removes { IfOk result (λ removed. Does L.holds (order_end self.map.cells) (Removes V.found self key removed)
             tx.old.attempts.caller tx.new.attempts.caller) }
         ensures may { OnOk result ((map : List Val) × MayBegin L.holds tx.new.attempts.caller map) }
@@ -124,10 +115,8 @@ impl<V: Word> OrderedMap<V> {
 
     /// The first key with its value, if there is one.
     pub fn first<L: Law>(self, tx: &mut Tx<'_, L>) -> Result<Option<(u64, V)>, Stop>
-        ensures keeps { Keeps tx.old.attempts.caller tx.new.attempts.caller }
-        ensures notes { Notes L.holds (noting tx.old) (noting tx.new) }
-        ensures stops { IfErr result (λ stop. Stops (order_end self.map.cells) false
-            tx.old.attempts.caller tx.new.attempts.caller stop.why) }
+        ensures goes { GoesOn L.holds tx.old tx.new }
+        ensures stops { IfErr result (λ stop. Stops (order_end self.map.cells) false tx.old tx.new stop.why) }
         ensures tells { IfOk result (λ answer. Does L.holds (order_end self.map.cells) (TellsFirst V.found self answer)
             tx.old.attempts.caller tx.new.attempts.caller) }
         ensures may { OnOk result ((map : List Val) × MayBegin L.holds tx.new.attempts.caller map) }
@@ -137,10 +126,8 @@ impl<V: Word> OrderedMap<V> {
 
     /// The last key with its value, if there is one.
     pub fn last<L: Law>(self, tx: &mut Tx<'_, L>) -> Result<Option<(u64, V)>, Stop>
-        ensures keeps { Keeps tx.old.attempts.caller tx.new.attempts.caller }
-        ensures notes { Notes L.holds (noting tx.old) (noting tx.new) }
-        ensures stops { IfErr result (λ stop. Stops (order_end self.map.cells) false
-            tx.old.attempts.caller tx.new.attempts.caller stop.why) }
+        ensures goes { GoesOn L.holds tx.old tx.new }
+        ensures stops { IfErr result (λ stop. Stops (order_end self.map.cells) false tx.old tx.new stop.why) }
         ensures tells { IfOk result (λ answer. Does L.holds (order_end self.map.cells) (TellsLast V.found self answer)
             tx.old.attempts.caller tx.new.attempts.caller) }
         ensures may { OnOk result ((map : List Val) × MayBegin L.holds tx.new.attempts.caller map) }
@@ -150,10 +137,8 @@ impl<V: Word> OrderedMap<V> {
 
     /// The first key above this one with its value, if there is one. The key itself need not be there.
     pub fn next_above<L: Law>(self, tx: &mut Tx<'_, L>, key: u64) -> Result<Option<(u64, V)>, Stop>
-        ensures keeps { Keeps tx.old.attempts.caller tx.new.attempts.caller }
-        ensures notes { Notes L.holds (noting tx.old) (noting tx.new) }
-        ensures stops { IfErr result (λ stop. Stops (order_end self.map.cells) false
-            tx.old.attempts.caller tx.new.attempts.caller stop.why) }
+        ensures goes { GoesOn L.holds tx.old tx.new }
+        ensures stops { IfErr result (λ stop. Stops (order_end self.map.cells) false tx.old tx.new stop.why) }
         ensures tells { IfOk result (λ answer. Does L.holds (order_end self.map.cells) (TellsAbove V.found self key answer)
             tx.old.attempts.caller tx.new.attempts.caller) }
         ensures may { OnOk result ((map : List Val) × MayBegin L.holds tx.new.attempts.caller map) }
@@ -168,10 +153,8 @@ impl<V: Word> OrderedMap<V> {
 
     /// Takes the first key out, and answers it with its value, if there is one.
     pub fn pop_first<L: Law>(self, tx: &mut Tx<'_, L>) -> Result<Option<(u64, V)>, Stop>
-        ensures keeps { Keeps tx.old.attempts.caller tx.new.attempts.caller }
-        ensures notes { Notes L.holds (noting tx.old) (noting tx.new) }
-        ensures stops { IfErr result (λ stop. Stops (order_end self.map.cells) tx.old.notes
-            tx.old.attempts.caller tx.new.attempts.caller stop.why) }
+        ensures goes { GoesOn L.holds tx.old tx.new }
+        ensures stops { IfErr result (λ stop. Stops (order_end self.map.cells) tx.old.notes tx.old tx.new stop.why) }
         ensures pops { IfOk result (λ popped. Does L.holds (order_end self.map.cells) (Pops V.found self popped)
             tx.old.attempts.caller tx.new.attempts.caller) }
         ensures may { OnOk result ((map : List Val) × MayBegin L.holds tx.new.attempts.caller map) }
@@ -186,10 +169,8 @@ impl<V: Word> OrderedMap<V> {
 
     // The first key with its value, or the last one.
     fn end<L: Law>(self, tx: &mut Tx<'_, L>, greatest: bool) -> Result<Option<(u64, V)>, Stop>
-        ensures keeps { Keeps tx.old.attempts.caller tx.new.attempts.caller }
-        ensures notes { Notes L.holds (noting tx.old) (noting tx.new) }
-        ensures stops { IfErr result (λ stop. Stops (order_end self.map.cells) false
-            tx.old.attempts.caller tx.new.attempts.caller stop.why) }
+        ensures goes { GoesOn L.holds tx.old tx.new }
+        ensures stops { IfErr result (λ stop. Stops (order_end self.map.cells) false tx.old tx.new stop.why) }
         ensures tells { IfOk result (λ answer. Does L.holds (order_end self.map.cells) (TellsEnd V.found self greatest answer)
             tx.old.attempts.caller tx.new.attempts.caller) }
         ensures may { OnOk result ((map : List Val) × MayBegin L.holds tx.new.attempts.caller map) }
@@ -209,10 +190,8 @@ impl<V: Word> OrderedMap<V> {
         key: u64,
         value: V,
     ) -> Result<Placed<V>, Stop>
-        ensures keeps { Keeps tx.old.attempts.caller tx.new.attempts.caller }
-        ensures notes { Notes L.holds (noting tx.old) (noting tx.new) }
-        ensures stops { IfErr result (λ stop. Stops (order_end self.map.cells) tx.old.notes
-            tx.old.attempts.caller tx.new.attempts.caller stop.why) }
+        ensures goes { GoesOn L.holds tx.old tx.new }
+        ensures stops { IfErr result (λ stop. Stops (order_end self.map.cells) tx.old.notes tx.old tx.new stop.why) }
         ensures adds { IfOk result (λ placed. Does L.holds (order_end self.map.cells) (Adding V.found self key value placed)
             tx.old.attempts.caller tx.new.attempts.caller) }
         ensures may { OnOk result (StillMay L.holds tx.old.attempts.caller tx.new.attempts.caller) }
@@ -235,10 +214,8 @@ impl<V: Word> OrderedMap<V> {
     // Takes a key out that stands at this place.
     fn take<L: Law>(self, tx: &mut Tx<'_, L>, key: u64, at: u32) -> Result<(), Stop>
         requires { at < self.map.cells.capacity }
-        ensures keeps { Keeps tx.old.attempts.caller tx.new.attempts.caller }
-        ensures notes { Notes L.holds (noting tx.old) (noting tx.new) }
-        ensures stops { IfErr result (λ stop. Stops (order_end self.map.cells) tx.old.notes
-            tx.old.attempts.caller tx.new.attempts.caller stop.why) }
+        ensures goes { GoesOn L.holds tx.old tx.new }
+        ensures stops { IfErr result (λ stop. Stops (order_end self.map.cells) tx.old.notes tx.old tx.new stop.why) }
         ensures takes { OnOk result (Does L.holds (order_end self.map.cells) (Takes V.found self key at)
             tx.old.attempts.caller tx.new.attempts.caller) }
         ensures may { OnOk result ((map : List Val) × MayBegin L.holds tx.new.attempts.caller map) }
@@ -254,10 +231,8 @@ impl<V: Word> OrderedMap<V> {
     // The key of a place with its value, if it holds one.
     fn entry<L: Law>(self, tx: &mut Tx<'_, L>, place: Option<u32>) -> Result<Option<(u64, V)>, Stop>
         requires { IfSome place (λ at. at < self.map.cells.capacity) }
-        ensures keeps { Keeps tx.old.attempts.caller tx.new.attempts.caller }
-        ensures notes { Notes L.holds (noting tx.old) (noting tx.new) }
-        ensures stops { IfErr result (λ stop. Stops (order_end self.map.cells) false
-            tx.old.attempts.caller tx.new.attempts.caller stop.why) }
+        ensures goes { GoesOn L.holds tx.old tx.new }
+        ensures stops { IfErr result (λ stop. Stops (order_end self.map.cells) false tx.old tx.new stop.why) }
         ensures looks { IfOk result (λ answer. Does L.holds (order_end self.map.cells) (Looks V.found self place answer)
             tx.old.attempts.caller tx.new.attempts.caller) }
         ensures may { OnOk result (StillMay L.holds tx.old.attempts.caller tx.new.attempts.caller) }

@@ -1,12 +1,12 @@
 // A queue in the cells of a memory.
-ghost use Rattle.std.specs.Prelude.{◌≡◌, ◌⊎◌, ◌↔◌, ◌+◌, ◌<◌, List, false, length, Err, IfErr, IfOk, OnOk};
-ghost use Rattle.dstm_cells.specs.Alternatives.{Notes, noting};
-ghost use Rattle.dstm_cells.specs.UnderWay.{Keeps, MayBegin, stop_by};
+ghost use Rattle.std.specs.Prelude.{◌≡◌, ◌⊎◌, ◌↔◌, ◌+◌, ◌<◌, List, false, true, length, Err, IfErr, IfOk, OnOk};
+ghost use Rattle.dstm_cells.specs.Cells.{WantsRoom};
+ghost use Rattle.dstm_cells.specs.UnderWay.{MayBegin, stop_by};
 ghost use Rattle.dstm_cells.specs.declared.error.Failed.TheVariants as failed;
 ghost use Rattle.dstm_cells.specs.declared.error.Why.TheVariants.{Retry};
 ghost use Rattle.dstm_model.specs.declared.value.Val.{Val};
-ghost use Rattle.dstm_structures.specs.Effects.{Does, Stops};
-ghost use Rattle.dstm_structures.specs.Queues.{Adds, Counts, Fronts, Pops, PutsLast, Pushes, TakesFirst, end_of, within};
+ghost use Rattle.dstm_structures.specs.Effects.{Does, GoesOn, Stops};
+ghost use Rattle.dstm_structures.specs.Queues.{Adds, Counts, Fronts, OpensEnds, OpensPlace, OpensToFront, OpensToPop, OpensToPush, Pops, PutsLast, Pushes, TakesFirst, end_of, within};
 
 use crate::cells::{Ring, behind, cell, next, number};
 use dstm_cells::{Cell, Failed, MOST_CELLS, Memory, Stop, Tx, Word, retry};
@@ -27,8 +27,7 @@ impl<T: Word> Queue<T> {
         ensures adds { IfOk result (λ queue. Adds T.found queue memory.old.values.items memory.new.values.items) }
         ensures capacity { IfOk result (λ queue. queue.cells.capacity ≡ capacity) }
         ensures full { result ≡ Err failed.Full ↔ 524288 < length memory.old.values.items + capacity + 1 }
-        ensures fails { IfErr result (λ why. (memory.new.values.items ≡ memory.old.values.items)
-            × ((why ≡ failed.Full) ⊎ (why ≡ failed.Memory))) }
+        ensures fails { IfErr result (λ why. (memory.new.values.items ≡ memory.old.values.items) × WantsRoom why) }
         ensures engine { memory.new.engine ≡ memory.old.engine }
         ensures law { memory.new.law ≡ memory.old.law }
     {
@@ -55,12 +54,11 @@ impl<T: Word> Queue<T> {
 
     /// How many values it has.
     pub fn len<L: Law>(self, tx: &mut Tx<'_, L>) -> Result<u32, Stop>
-        ensures keeps { Keeps tx.old.attempts.caller tx.new.attempts.caller }
-        ensures notes { Notes L.holds (noting tx.old) (noting tx.new) }
-        ensures stops { IfErr result (λ stop. Stops (end_of self) false
-            tx.old.attempts.caller tx.new.attempts.caller stop.why) }
+        ensures goes { GoesOn L.holds tx.old tx.new }
+        ensures stops { IfErr result (λ stop. Stops (end_of self) false tx.old tx.new stop.why) }
         ensures counts { IfOk result (λ count. Does L.holds (end_of self) (Counts T.found self count)
             tx.old.attempts.caller tx.new.attempts.caller) }
+        ensures opens { OnOk result (OpensEnds T.found self L.holds tx.old.attempts.caller tx.new.attempts.caller) }
         ensures may { OnOk result ((map : List Val) × MayBegin L.holds tx.new.attempts.caller map) }
     {
         let ends = tx.get(self.ends())?;
@@ -69,12 +67,11 @@ impl<T: Word> Queue<T> {
 
     /// Puts a value at the end, and tells whether there was room.
     pub fn try_push<L: Law>(self, tx: &mut Tx<'_, L>, value: T) -> Result<bool, Stop>
-        ensures keeps { Keeps tx.old.attempts.caller tx.new.attempts.caller }
-        ensures notes { Notes L.holds (noting tx.old) (noting tx.new) }
-        ensures stops { IfErr result (λ stop. Stops (end_of self) tx.old.notes
-            tx.old.attempts.caller tx.new.attempts.caller stop.why) }
+        ensures goes { GoesOn L.holds tx.old tx.new }
+        ensures stops { IfErr result (λ stop. Stops (end_of self) tx.old.notes tx.old tx.new stop.why) }
         ensures pushes { IfOk result (λ pushed. Does L.holds (end_of self) (Pushes T.found self value pushed)
             tx.old.attempts.caller tx.new.attempts.caller) }
+        ensures opens { IfOk result (λ pushed. OpensToPush T.found self L.holds pushed tx.old.attempts.caller tx.new.attempts.caller) }
         ensures may { OnOk result ((map : List Val) × MayBegin L.holds tx.new.attempts.caller map) }
     {
         let ends = tx.get(self.ends())?;
@@ -89,14 +86,14 @@ impl<T: Word> Queue<T> {
 
     /// Puts a value at the end, once there is room.
     pub fn push<L: Law>(self, tx: &mut Tx<'_, L>, value: T) -> Result<(), Stop>
-        ensures keeps { Keeps tx.old.attempts.caller tx.new.attempts.caller }
-        ensures notes { Notes L.holds (noting tx.old) (noting tx.new) }
-        ensures stops { IfErr result (λ stop. (stop.why ≡ Retry)
-            ⊎ Stops (end_of self) tx.old.notes tx.old.attempts.caller tx.new.attempts.caller stop.why) }
+        ensures goes { GoesOn L.holds tx.old tx.new }
+        ensures stops { IfErr result (λ stop. (stop.why ≡ Retry) ⊎ Stops (end_of self) tx.old.notes tx.old tx.new stop.why) }
         ensures retries { result ≡ Err (stop_by Retry) → Does L.holds (end_of self) (Counts T.found self self.cells.capacity)
             tx.old.attempts.caller tx.new.attempts.caller }
         ensures pushes { OnOk result (Does L.holds (end_of self) (PutsLast T.found self value)
             tx.old.attempts.caller tx.new.attempts.caller) }
+        ensures opens { OnOk result (OpensPlace T.found self L.holds true tx.old.attempts.caller tx.new.attempts.caller) }
+        ensures looks { result ≡ Err (stop_by Retry) → OpensEnds T.found self L.holds tx.old.attempts.caller tx.new.attempts.caller }
         ensures may { OnOk result ((map : List Val) × MayBegin L.holds tx.new.attempts.caller map) }
         ensures waits { result ≡ Err (stop_by Retry) → ((map : List Val) × MayBegin L.holds tx.new.attempts.caller map) }
     {
@@ -106,12 +103,11 @@ impl<T: Word> Queue<T> {
 
     /// Takes the first value, if there is one.
     pub fn try_pop<L: Law>(self, tx: &mut Tx<'_, L>) -> Result<Option<T>, Stop>
-        ensures keeps { Keeps tx.old.attempts.caller tx.new.attempts.caller }
-        ensures notes { Notes L.holds (noting tx.old) (noting tx.new) }
-        ensures stops { IfErr result (λ stop. Stops (end_of self) tx.old.notes
-            tx.old.attempts.caller tx.new.attempts.caller stop.why) }
+        ensures goes { GoesOn L.holds tx.old tx.new }
+        ensures stops { IfErr result (λ stop. Stops (end_of self) tx.old.notes tx.old tx.new stop.why) }
         ensures pops { IfOk result (λ popped. Does L.holds (end_of self) (Pops T.found self popped)
             tx.old.attempts.caller tx.new.attempts.caller) }
+        ensures opens { IfOk result (λ popped. OpensToPop T.found self L.holds popped tx.old.attempts.caller tx.new.attempts.caller) }
         ensures may { OnOk result ((map : List Val) × MayBegin L.holds tx.new.attempts.caller map) }
     {
         let ends = tx.get(self.ends())?;
@@ -126,14 +122,14 @@ impl<T: Word> Queue<T> {
 
     /// Takes the first value, once there is one.
     pub fn pop<L: Law>(self, tx: &mut Tx<'_, L>) -> Result<T, Stop>
-        ensures keeps { Keeps tx.old.attempts.caller tx.new.attempts.caller }
-        ensures notes { Notes L.holds (noting tx.old) (noting tx.new) }
-        ensures stops { IfErr result (λ stop. (stop.why ≡ Retry)
-            ⊎ Stops (end_of self) tx.old.notes tx.old.attempts.caller tx.new.attempts.caller stop.why) }
+        ensures goes { GoesOn L.holds tx.old tx.new }
+        ensures stops { IfErr result (λ stop. (stop.why ≡ Retry) ⊎ Stops (end_of self) tx.old.notes tx.old tx.new stop.why) }
         ensures retries { result ≡ Err (stop_by Retry) → Does L.holds (end_of self) (Counts T.found self 0)
             tx.old.attempts.caller tx.new.attempts.caller }
         ensures pops { IfOk result (λ value. Does L.holds (end_of self) (TakesFirst T.found self value)
             tx.old.attempts.caller tx.new.attempts.caller) }
+        ensures opens { OnOk result (OpensPlace T.found self L.holds false tx.old.attempts.caller tx.new.attempts.caller) }
+        ensures looks { result ≡ Err (stop_by Retry) → OpensEnds T.found self L.holds tx.old.attempts.caller tx.new.attempts.caller }
         ensures may { OnOk result ((map : List Val) × MayBegin L.holds tx.new.attempts.caller map) }
         ensures waits { result ≡ Err (stop_by Retry) → ((map : List Val) × MayBegin L.holds tx.new.attempts.caller map) }
     {
@@ -146,12 +142,11 @@ impl<T: Word> Queue<T> {
 
     /// The first value, if there is one.
     pub fn front<L: Law>(self, tx: &mut Tx<'_, L>) -> Result<Option<T>, Stop>
-        ensures keeps { Keeps tx.old.attempts.caller tx.new.attempts.caller }
-        ensures notes { Notes L.holds (noting tx.old) (noting tx.new) }
-        ensures stops { IfErr result (λ stop. Stops (end_of self) false
-            tx.old.attempts.caller tx.new.attempts.caller stop.why) }
+        ensures goes { GoesOn L.holds tx.old tx.new }
+        ensures stops { IfErr result (λ stop. Stops (end_of self) false tx.old tx.new stop.why) }
         ensures fronts { IfOk result (λ front. Does L.holds (end_of self) (Fronts T.found self front)
             tx.old.attempts.caller tx.new.attempts.caller) }
+        ensures opens { IfOk result (λ front. OpensToFront T.found self L.holds front tx.old.attempts.caller tx.new.attempts.caller) }
         ensures may { OnOk result ((map : List Val) × MayBegin L.holds tx.new.attempts.caller map) }
     {
         let ends = tx.get(self.ends())?;

@@ -1,10 +1,10 @@
 // An ordered set in the cells of a memory.
 ghost use Rattle.std.specs.Prelude.{◌≡◌, ◌⊎◌, ◌↔◌, ◌+◌, ◌*◌, ◌<◌, List, false, length, Err, IfErr, IfOk, OnOk};
-ghost use Rattle.dstm_cells.specs.Alternatives.{Notes, noting};
-ghost use Rattle.dstm_cells.specs.UnderWay.{Keeps, MayBegin};
+ghost use Rattle.dstm_cells.specs.Cells.{WantsRoom};
+ghost use Rattle.dstm_cells.specs.UnderWay.{MayBegin};
 ghost use Rattle.dstm_cells.specs.declared.error.Failed.TheVariants as failed;
 ghost use Rattle.dstm_model.specs.declared.value.Val.{Val};
-ghost use Rattle.dstm_structures.specs.Effects.{Does, Stops};
+ghost use Rattle.dstm_structures.specs.Effects.{Does, GoesOn, Stops};
 ghost use Rattle.dstm_structures.specs.Maps.{end_of};
 ghost use Rattle.dstm_structures.specs.Orders.{order_end};
 ghost use Rattle.dstm_structures.specs.Sets.{Adds, Inserts, Pops, Removes, TellsAbove, TellsFirst, TellsIf, TellsLast, inserted_by, key_in};
@@ -54,8 +54,7 @@ impl OrderedSet {
         ensures adds { IfOk result (λ set. Adds set memory.old.values.items memory.new.values.items) }
         ensures capacity { IfOk result (λ set. set.map.map.cells.capacity ≡ capacity) }
         ensures full { result ≡ Err failed.Full ↔ (capacity ≡ 0) ⊎ (524288 < length memory.old.values.items + 3 * capacity + 1) }
-        ensures fails { IfErr result (λ why. (memory.new.values.items ≡ memory.old.values.items)
-            × ((why ≡ failed.Full) ⊎ (why ≡ failed.Memory))) }
+        ensures fails { IfErr result (λ why. (memory.new.values.items ≡ memory.old.values.items) × WantsRoom why) }
         ensures engine { memory.new.engine ≡ memory.old.engine }
         ensures law { memory.new.law ≡ memory.old.law }
     {
@@ -72,10 +71,8 @@ impl OrderedSet {
 
     /// Tells whether a key is in the set. It reads what a `HashMap` reads.
     pub fn contains<L: Law>(self, tx: &mut Tx<'_, L>, key: u64) -> Result<bool, Stop>
-        ensures keeps { Keeps tx.old.attempts.caller tx.new.attempts.caller }
-        ensures notes { Notes L.holds (noting tx.old) (noting tx.new) }
-        ensures stops { IfErr result (λ stop. Stops (end_of self.map.map) false
-            tx.old.attempts.caller tx.new.attempts.caller stop.why) }
+        ensures goes { GoesOn L.holds tx.old tx.new }
+        ensures stops { IfErr result (λ stop. Stops (end_of self.map.map) false tx.old tx.new stop.why) }
         ensures tells { IfOk result (λ answer. Does L.holds (end_of self.map.map) (TellsIf self key answer)
             tx.old.attempts.caller tx.new.attempts.caller) }
         ensures may { OnOk result ((map : List Val) × MayBegin L.holds tx.new.attempts.caller map) }
@@ -85,10 +82,8 @@ impl OrderedSet {
 
     /// Inserts a key, where it is not there. Where it is, nothing is set, and nothing of the order is read.
     pub fn insert<L: Law>(self, tx: &mut Tx<'_, L>, key: u64) -> Result<Inserted, Stop>
-        ensures keeps { Keeps tx.old.attempts.caller tx.new.attempts.caller }
-        ensures notes { Notes L.holds (noting tx.old) (noting tx.new) }
-        ensures stops { IfErr result (λ stop. Stops (order_end self.map.map.cells) tx.old.notes
-            tx.old.attempts.caller tx.new.attempts.caller stop.why) }
+        ensures goes { GoesOn L.holds tx.old tx.new }
+        ensures stops { IfErr result (λ stop. Stops (order_end self.map.map.cells) tx.old.notes tx.old tx.new stop.why) }
         ensures inserts { IfOk result (λ inserted. Does L.holds (order_end self.map.map.cells) (Inserts self key inserted)
             tx.old.attempts.caller tx.new.attempts.caller) }
         ensures may { OnOk result ((map : List Val) × MayBegin L.holds tx.new.attempts.caller map) }
@@ -103,10 +98,8 @@ impl OrderedSet {
 
     /// Takes a key out, and tells whether it was there.
     pub fn remove<L: Law>(self, tx: &mut Tx<'_, L>, key: u64) -> Result<bool, Stop>
-        ensures keeps { Keeps tx.old.attempts.caller tx.new.attempts.caller }
-        ensures notes { Notes L.holds (noting tx.old) (noting tx.new) }
-        ensures stops { IfErr result (λ stop. Stops (order_end self.map.map.cells) tx.old.notes
-            tx.old.attempts.caller tx.new.attempts.caller stop.why) }
+        ensures goes { GoesOn L.holds tx.old tx.new }
+        ensures stops { IfErr result (λ stop. Stops (order_end self.map.map.cells) tx.old.notes tx.old tx.new stop.why) }
         ensures removes { IfOk result (λ removed. Does L.holds (order_end self.map.map.cells) (Removes self key removed)
             tx.old.attempts.caller tx.new.attempts.caller) }
         ensures may { OnOk result ((map : List Val) × MayBegin L.holds tx.new.attempts.caller map) }
@@ -117,10 +110,8 @@ impl OrderedSet {
 
     /// The first key, if there is one.
     pub fn first<L: Law>(self, tx: &mut Tx<'_, L>) -> Result<Option<u64>, Stop>
-        ensures keeps { Keeps tx.old.attempts.caller tx.new.attempts.caller }
-        ensures notes { Notes L.holds (noting tx.old) (noting tx.new) }
-        ensures stops { IfErr result (λ stop. Stops (order_end self.map.map.cells) false
-            tx.old.attempts.caller tx.new.attempts.caller stop.why) }
+        ensures goes { GoesOn L.holds tx.old tx.new }
+        ensures stops { IfErr result (λ stop. Stops (order_end self.map.map.cells) false tx.old tx.new stop.why) }
         ensures tells { IfOk result (λ answer. Does L.holds (order_end self.map.map.cells) (TellsFirst self answer)
             tx.old.attempts.caller tx.new.attempts.caller) }
         ensures may { OnOk result ((map : List Val) × MayBegin L.holds tx.new.attempts.caller map) }
@@ -131,10 +122,8 @@ impl OrderedSet {
 
     /// The last key, if there is one.
     pub fn last<L: Law>(self, tx: &mut Tx<'_, L>) -> Result<Option<u64>, Stop>
-        ensures keeps { Keeps tx.old.attempts.caller tx.new.attempts.caller }
-        ensures notes { Notes L.holds (noting tx.old) (noting tx.new) }
-        ensures stops { IfErr result (λ stop. Stops (order_end self.map.map.cells) false
-            tx.old.attempts.caller tx.new.attempts.caller stop.why) }
+        ensures goes { GoesOn L.holds tx.old tx.new }
+        ensures stops { IfErr result (λ stop. Stops (order_end self.map.map.cells) false tx.old tx.new stop.why) }
         ensures tells { IfOk result (λ answer. Does L.holds (order_end self.map.map.cells) (TellsLast self answer)
             tx.old.attempts.caller tx.new.attempts.caller) }
         ensures may { OnOk result ((map : List Val) × MayBegin L.holds tx.new.attempts.caller map) }
@@ -145,10 +134,8 @@ impl OrderedSet {
 
     /// The first key above this one, if there is one. The key itself need not be there.
     pub fn next_above<L: Law>(self, tx: &mut Tx<'_, L>, key: u64) -> Result<Option<u64>, Stop>
-        ensures keeps { Keeps tx.old.attempts.caller tx.new.attempts.caller }
-        ensures notes { Notes L.holds (noting tx.old) (noting tx.new) }
-        ensures stops { IfErr result (λ stop. Stops (order_end self.map.map.cells) false
-            tx.old.attempts.caller tx.new.attempts.caller stop.why) }
+        ensures goes { GoesOn L.holds tx.old tx.new }
+        ensures stops { IfErr result (λ stop. Stops (order_end self.map.map.cells) false tx.old tx.new stop.why) }
         ensures tells { IfOk result (λ answer. Does L.holds (order_end self.map.map.cells) (TellsAbove self key answer)
             tx.old.attempts.caller tx.new.attempts.caller) }
         ensures may { OnOk result ((map : List Val) × MayBegin L.holds tx.new.attempts.caller map) }
@@ -159,10 +146,8 @@ impl OrderedSet {
 
     /// Takes the first key out, and answers it, if there is one.
     pub fn pop_first<L: Law>(self, tx: &mut Tx<'_, L>) -> Result<Option<u64>, Stop>
-        ensures keeps { Keeps tx.old.attempts.caller tx.new.attempts.caller }
-        ensures notes { Notes L.holds (noting tx.old) (noting tx.new) }
-        ensures stops { IfErr result (λ stop. Stops (order_end self.map.map.cells) tx.old.notes
-            tx.old.attempts.caller tx.new.attempts.caller stop.why) }
+        ensures goes { GoesOn L.holds tx.old tx.new }
+        ensures stops { IfErr result (λ stop. Stops (order_end self.map.map.cells) tx.old.notes tx.old tx.new stop.why) }
         ensures pops { IfOk result (λ popped. Does L.holds (order_end self.map.map.cells) (Pops self popped)
             tx.old.attempts.caller tx.new.attempts.caller) }
         ensures may { OnOk result ((map : List Val) × MayBegin L.holds tx.new.attempts.caller map) }

@@ -1,9 +1,8 @@
 // How keys are added to the order of a map, and taken out.
 ghost use Rattle.std.specs.Prelude.{◌≡◌, ◌≢◌, ◌+◌, ◌*◌, ◌/◌, ◌^◌, ◌<◌, ◌≤◌, List, false, if◌then◌else◌, nat_lt, IfErr, IfOk, IfSome, OnOk};
-ghost use Rattle.dstm_cells.specs.Alternatives.{Notes, noting};
-ghost use Rattle.dstm_cells.specs.UnderWay.{Keeps, MayBegin};
+ghost use Rattle.dstm_cells.specs.UnderWay.{MayBegin};
 ghost use Rattle.dstm_model.specs.declared.value.Val.{Val};
-ghost use Rattle.dstm_structures.specs.Effects.{Does, StillMay, Stops};
+ghost use Rattle.dstm_structures.specs.Effects.{Does, GoesOn, StillMay, Stops};
 ghost use Rattle.dstm_structures.specs.Orders.{order_end};
 ghost use Rattle.dstm_structures.specs.Tips.{AddsBeside, AddsKey, AddsOver, AddsTip, DropsKey, DropsTip, FreesFork, LooksFork, SeeksFork, SetsFork, SetsRoot, SetsSide};
 
@@ -31,10 +30,8 @@ impl Order {
     ) -> Result<(), Stop>
         requires at { at < self.cells.capacity }
         requires cell { cell < self.cells.capacity }
-        ensures keeps { Keeps tx.old.attempts.caller tx.new.attempts.caller }
-        ensures notes { Notes L.holds (noting tx.old) (noting tx.new) }
-        ensures stops { IfErr result (λ stop. Stops (order_end self.cells) tx.old.notes
-            tx.old.attempts.caller tx.new.attempts.caller stop.why) }
+        ensures goes { GoesOn L.holds tx.old tx.new }
+        ensures stops { IfErr result (λ stop. Stops (order_end self.cells) tx.old.notes tx.old tx.new stop.why) }
         ensures adds { OnOk result (Does L.holds (order_end self.cells) (AddsKey self.cells key at cell)
             tx.old.attempts.caller tx.new.attempts.caller) }
         ensures may { OnOk result ((map : List Val) × MayBegin L.holds tx.new.attempts.caller map) }
@@ -47,10 +44,8 @@ impl Order {
 
     // Takes a key out that stands at this place.
     pub(crate) fn drop_key<L: Law>(self, tx: &mut Tx<'_, L>, key: u64, at: u32) -> Result<(), Stop>
-        ensures keeps { Keeps tx.old.attempts.caller tx.new.attempts.caller }
-        ensures notes { Notes L.holds (noting tx.old) (noting tx.new) }
-        ensures stops { IfErr result (λ stop. Stops (order_end self.cells) tx.old.notes
-            tx.old.attempts.caller tx.new.attempts.caller stop.why) }
+        ensures goes { GoesOn L.holds tx.old tx.new }
+        ensures stops { IfErr result (λ stop. Stops (order_end self.cells) tx.old.notes tx.old tx.new stop.why) }
         ensures drops { OnOk result (Does L.holds (order_end self.cells) (DropsKey self.cells key at)
             tx.old.attempts.caller tx.new.attempts.caller) }
         ensures may { OnOk result ((map : List Val) × MayBegin L.holds tx.new.attempts.caller map) }
@@ -68,10 +63,8 @@ impl Order {
         home: u32,
     ) -> Result<Option<u32>, Stop>
         requires { home < self.cells.capacity }
-        ensures keeps { Keeps tx.old.attempts.caller tx.new.attempts.caller }
-        ensures notes { Notes L.holds (noting tx.old) (noting tx.new) }
-        ensures stops { IfErr result (λ stop. Stops (order_end self.cells) false
-            tx.old.attempts.caller tx.new.attempts.caller stop.why) }
+        ensures goes { GoesOn L.holds tx.old tx.new }
+        ensures stops { IfErr result (λ stop. Stops (order_end self.cells) false tx.old tx.new stop.why) }
         ensures within { IfOk result (λ free. IfSome free (λ cell. cell < self.cells.capacity)) }
         ensures seeks { IfOk result (λ free. Does L.holds (order_end self.cells) (SeeksFork self.cells free)
             tx.old.attempts.caller tx.new.attempts.caller) }
@@ -98,10 +91,8 @@ impl Order {
         requires at { added.at < self.cells.capacity }
         requires cell { added.cell < self.cells.capacity }
         requires under { under ≤ 64 }
-        ensures keeps { Keeps tx.old.attempts.caller tx.new.attempts.caller }
-        ensures notes { Notes L.holds (noting tx.old) (noting tx.new) }
-        ensures stops { IfErr result (λ stop. Stops (order_end self.cells) tx.old.notes
-            tx.old.attempts.caller tx.new.attempts.caller stop.why) }
+        ensures goes { GoesOn L.holds tx.old tx.new }
+        ensures stops { IfErr result (λ stop. Stops (order_end self.cells) tx.old.notes tx.old tx.new stop.why) }
         ensures few { IfOk result (λ now. now < 268435456) }
         ensures adds { IfOk result (λ now. Does L.holds (order_end self.cells)
             (AddsTip self.cells added.key added.at added.cell link under now)
@@ -137,10 +128,8 @@ impl Order {
         requires at { added.at < self.cells.capacity }
         requires cell { added.cell < self.cells.capacity }
         requires place { place < self.cells.capacity }
-        ensures keeps { Keeps tx.old.attempts.caller tx.new.attempts.caller }
-        ensures notes { Notes L.holds (noting tx.old) (noting tx.new) }
-        ensures stops { IfErr result (λ stop. Stops (order_end self.cells) tx.old.notes
-            tx.old.attempts.caller tx.new.attempts.caller stop.why) }
+        ensures goes { GoesOn L.holds tx.old tx.new }
+        ensures stops { IfErr result (λ stop. Stops (order_end self.cells) tx.old.notes tx.old tx.new stop.why) }
         ensures few { IfOk result (λ now. now < 268435456) }
         ensures adds { IfOk result (λ now. Does L.holds (order_end self.cells)
             (AddsBeside self.cells added.key added.at added.cell place now)
@@ -179,10 +168,8 @@ impl Order {
         requires over { over < self.cells.capacity }
         requires level { fork.level < 64 }
         requires other { added.key / 2 ^ fork.level / 2 ≢ fork.prefix }
-        ensures keeps { Keeps tx.old.attempts.caller tx.new.attempts.caller }
-        ensures notes { Notes L.holds (noting tx.old) (noting tx.new) }
-        ensures stops { IfErr result (λ stop. Stops (order_end self.cells) tx.old.notes
-            tx.old.attempts.caller tx.new.attempts.caller stop.why) }
+        ensures goes { GoesOn L.holds tx.old tx.new }
+        ensures stops { IfErr result (λ stop. Stops (order_end self.cells) tx.old.notes tx.old tx.new stop.why) }
         ensures few { IfOk result (λ now. now < 268435456) }
         ensures adds { IfOk result (λ now. Does L.holds (order_end self.cells)
             (AddsOver self.cells added.key added.at added.cell over fork now)
@@ -217,10 +204,8 @@ impl Order {
         under: u32,
     ) -> Result<u64, Stop>
         requires { under ≤ 64 }
-        ensures keeps { Keeps tx.old.attempts.caller tx.new.attempts.caller }
-        ensures notes { Notes L.holds (noting tx.old) (noting tx.new) }
-        ensures stops { IfErr result (λ stop. Stops (order_end self.cells) tx.old.notes
-            tx.old.attempts.caller tx.new.attempts.caller stop.why) }
+        ensures goes { GoesOn L.holds tx.old tx.new }
+        ensures stops { IfErr result (λ stop. Stops (order_end self.cells) tx.old.notes tx.old tx.new stop.why) }
         ensures few { IfOk result (λ now. now < 268435456) }
         ensures drops { IfOk result (λ now. Does L.holds (order_end self.cells) (DropsTip self.cells key at link under now)
             tx.old.attempts.caller tx.new.attempts.caller) }
@@ -259,10 +244,8 @@ impl Order {
     // What the cell of a fork tells.
     pub(crate) fn look_fork<L: Law>(self, tx: &mut Tx<'_, L>, cell: u32) -> Result<Fork, Stop>
         requires { cell < self.cells.capacity }
-        ensures keeps { Keeps tx.old.attempts.caller tx.new.attempts.caller }
-        ensures notes { Notes L.holds (noting tx.old) (noting tx.new) }
-        ensures stops { IfErr result (λ stop. Stops (order_end self.cells) false
-            tx.old.attempts.caller tx.new.attempts.caller stop.why) }
+        ensures goes { GoesOn L.holds tx.old tx.new }
+        ensures stops { IfErr result (λ stop. Stops (order_end self.cells) false tx.old tx.new stop.why) }
         ensures left { IfOk result (λ fork. fork.left < 268435456) }
         ensures right { IfOk result (λ fork. fork.right < 268435456) }
         ensures looks { IfOk result (λ fork. Does L.holds (order_end self.cells) (LooksFork self.cells cell fork)
@@ -279,10 +262,8 @@ impl Order {
         requires level { fork.level < 64 }
         requires left { fork.left < 268435456 }
         requires right { fork.right < 268435456 }
-        ensures keeps { Keeps tx.old.attempts.caller tx.new.attempts.caller }
-        ensures notes { Notes L.holds (noting tx.old) (noting tx.new) }
-        ensures stops { IfErr result (λ stop. Stops (order_end self.cells) tx.old.notes
-            tx.old.attempts.caller tx.new.attempts.caller stop.why) }
+        ensures goes { GoesOn L.holds tx.old tx.new }
+        ensures stops { IfErr result (λ stop. Stops (order_end self.cells) tx.old.notes tx.old tx.new stop.why) }
         ensures sets { OnOk result (Does L.holds (order_end self.cells) (SetsFork self.cells cell fork)
             tx.old.attempts.caller tx.new.attempts.caller) }
         ensures may { OnOk result ((map : List Val) × MayBegin L.holds tx.new.attempts.caller map) }
@@ -305,10 +286,8 @@ impl Order {
         requires left { fork.left < 268435456 }
         requires right { fork.right < 268435456 }
         requires link { link < 268435456 }
-        ensures keeps { Keeps tx.old.attempts.caller tx.new.attempts.caller }
-        ensures notes { Notes L.holds (noting tx.old) (noting tx.new) }
-        ensures stops { IfErr result (λ stop. Stops (order_end self.cells) tx.old.notes
-            tx.old.attempts.caller tx.new.attempts.caller stop.why) }
+        ensures goes { GoesOn L.holds tx.old tx.new }
+        ensures stops { IfErr result (λ stop. Stops (order_end self.cells) tx.old.notes tx.old tx.new stop.why) }
         ensures sets { OnOk result (Does L.holds (order_end self.cells) (SetsSide self.cells cell fork greater link)
             tx.old.attempts.caller tx.new.attempts.caller) }
         ensures stays { (if greater then fork.right else fork.left) ≡ link → tx.new ≡ tx.old }
@@ -323,10 +302,8 @@ impl Order {
 
     // Sets the link to the whole trie, where that is another one.
     fn set_root<L: Law>(self, tx: &mut Tx<'_, L>, was: u64, now: u64) -> Result<(), Stop>
-        ensures keeps { Keeps tx.old.attempts.caller tx.new.attempts.caller }
-        ensures notes { Notes L.holds (noting tx.old) (noting tx.new) }
-        ensures stops { IfErr result (λ stop. Stops (order_end self.cells) tx.old.notes
-            tx.old.attempts.caller tx.new.attempts.caller stop.why) }
+        ensures goes { GoesOn L.holds tx.old tx.new }
+        ensures stops { IfErr result (λ stop. Stops (order_end self.cells) tx.old.notes tx.old tx.new stop.why) }
         ensures sets { OnOk result (Does L.holds (order_end self.cells) (SetsRoot self.cells was now)
             tx.old.attempts.caller tx.new.attempts.caller) }
         ensures stays { was ≡ now → tx.new ≡ tx.old }
@@ -342,10 +319,8 @@ impl Order {
     // Makes the cell of a fork free.
     fn clear_fork<L: Law>(self, tx: &mut Tx<'_, L>, cell: u32) -> Result<(), Stop>
         requires { cell < self.cells.capacity }
-        ensures keeps { Keeps tx.old.attempts.caller tx.new.attempts.caller }
-        ensures notes { Notes L.holds (noting tx.old) (noting tx.new) }
-        ensures stops { IfErr result (λ stop. Stops (order_end self.cells) tx.old.notes
-            tx.old.attempts.caller tx.new.attempts.caller stop.why) }
+        ensures goes { GoesOn L.holds tx.old tx.new }
+        ensures stops { IfErr result (λ stop. Stops (order_end self.cells) tx.old.notes tx.old tx.new stop.why) }
         ensures frees { OnOk result (Does L.holds (order_end self.cells) (FreesFork self.cells cell)
             tx.old.attempts.caller tx.new.attempts.caller) }
         ensures may { OnOk result ((map : List Val) × MayBegin L.holds tx.new.attempts.caller map) }

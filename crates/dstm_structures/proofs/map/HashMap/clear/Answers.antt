@@ -1,27 +1,24 @@
-use Rattle.std.proofs.Common.{◌∙◌, arith}
+use Rattle.std.proofs.Common.{arith}
+use Rattle.std.proofs.lemmas.Grind.{common_steps}
+use Rattle.dstm_structures.specs.Effects.{goes-again}
 use Rattle.dstm_structures.proofs.Doing.{does-as, does-then}
 use Rattle.dstm_structures.proofs.Mapping.{clear-end, clear-next, clear-start}
-use Rattle.dstm_structures.proofs.Noting.{notes_twice}
+use Rattle.dstm_structures.proofs.Effects.{goes-stay}
 use Rattle.dstm_structures.proofs.map.HashMap.clear.Goals as goal
 
 pub loop-passed-init : goal.loop-passed-init
 loop-passed-init g c = (
-  c.in_ok-reach.ensures.keeps,
-  c.in_ok-reach.ensures.notes,
+  c.in_ok-reach.ensures.goes,
   does-as c.in_ok-reach.ensures.reaches
       (λ before after size. clear-start c.args.self c.args.key c.home-home.result c.in_ok-reach.reach before after
       c.home-home.ensures.home),
   c.in_ok-reach.ensures.may,
 )
 
-pub returns-in_err-empty-clause-notes : goal.returns-in_err-empty-clause-notes
-returns-in_err-empty-clause-notes g c = search notes_twice
-
 pub loop-passed-preserved : goal.loop-passed-preserved
 loop-passed-preserved g c = (
-  c.in_ok-empty.ensures.keeps ∙ c.loop-passed.invariant.0,
-  notes_twice c.loop-passed.invariant.1 c.in_ok-empty.ensures.notes,
-  does-then c.loop-passed.invariant.0 c.loop-passed.invariant.2
+  goes-again c.loop-passed.invariant.0 c.in_ok-empty.ensures.goes,
+  does-then c.loop-passed.invariant.0.keeps c.loop-passed.invariant.1
       c.in_ok-empty.ensures.empties
       (λ before mid after size. clear-next c.args.self c.args.key c.in_ok-reach.reach c.loop-passed.passed
       c.home-home.result c.behind.result before mid after c.home-home.ensures.home c.behind.ensures.behind
@@ -31,6 +28,9 @@ loop-passed-preserved g c = (
 
 pub returns-clause-clears : goal.returns-clause-clears
 returns-clause-clears g c =
-    does-as c.loop-passed.invariant.2
+    does-as c.loop-passed.invariant.1
     (λ before after size. clear-end c.args.self c.args.key c.in_ok-reach.reach c.loop-passed.passed before after
     (omega (arith, c.loop-passed-test.false)))
+
+pub returns-in_err-empty-clause-stops : goal.returns-in_err-empty-clause-stops
+returns-in_err-empty-clause-stops g c = let stay = goes-stay c.loop-passed.invariant.0 in grind (arith, common_steps)

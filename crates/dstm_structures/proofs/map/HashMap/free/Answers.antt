@@ -1,35 +1,27 @@
-use Rattle.std.proofs.Common.{◌∙◌, arith, refl, sym}
+use Rattle.std.proofs.Common.{◌∙◌, arith, sym}
+use Rattle.dstm_structures.specs.Effects.{goes-again, goes-still}
 use Rattle.dstm_structures.proofs.Doing.{does-as, does-still, then-read}
 use Rattle.dstm_structures.proofs.Mapping.{pass-found, pass-next, pass-none, pass-start, reads-key}
-use Rattle.dstm_structures.proofs.Noting.{notes_still, notes_twice}
 use Rattle.dstm_structures.proofs.map.HashMap.free.Goals as goal
 
 pub loop-passed-init : goal.loop-passed-init
 loop-passed-init g c = (
-  refl,
-  notes_still,
+  goes-still,
   does-still (λ values. pass-start c.args.self c.args.home c.args.reach values),
   λ m. m,
 )
 
-pub returns-in_err-slot-clause-notes : goal.returns-in_err-slot-clause-notes
-returns-in_err-slot-clause-notes g c = search notes_twice
-
-pub returns-then-is_free-clause-notes : goal.returns-then-is_free-clause-notes
-returns-then-is_free-clause-notes g c = search notes_twice
-
 pub returns-then-is_free-clause-frees : goal.returns-then-is_free-clause-frees
 returns-then-is_free-clause-frees g c =
-    then-read c.loop-passed.invariant.0 c.loop-passed.invariant.2 c.in_ok-slot.ensures.gets
+    then-read c.loop-passed.invariant.0.keeps c.loop-passed.invariant.1 c.in_ok-slot.ensures.gets
     (λ before mid after size p reads is. pass-found c.args.self c.args.home c.args.reach c.loop-passed.passed
     c.behind-at.result c.slot_at.result.object c.in_ok-slot.slot.key _ before mid after c.behind-at.ensures.behind c.slot_at.ensures
     (grind arith) (p is) (reads-key reads) (sym c.is_free.ensures ∙ c.if-is_free.true))
 
 pub loop-passed-preserved : goal.loop-passed-preserved
 loop-passed-preserved g c = (
-  c.in_ok-slot.ensures.keeps ∙ c.loop-passed.invariant.0,
-  notes_twice c.loop-passed.invariant.1 c.in_ok-slot.ensures.notes,
-  then-read c.loop-passed.invariant.0 c.loop-passed.invariant.2 c.in_ok-slot.ensures.gets
+  goes-again c.loop-passed.invariant.0 (record { keeps = c.in_ok-slot.ensures.keeps; notes = c.in_ok-slot.ensures.notes }),
+  then-read c.loop-passed.invariant.0.keeps c.loop-passed.invariant.1 c.in_ok-slot.ensures.gets
       (λ before mid after size p reads is. pass-next c.args.self c.args.home c.args.reach c.loop-passed.passed
       c.behind-at.result c.slot_at.result.object c.in_ok-slot.slot.key _ before mid after c.behind-at.ensures.behind c.slot_at.ensures
       (grind arith) (p is) (reads-key reads) (sym c.is_free.ensures ∙ c.if-is_free.false)),
@@ -38,6 +30,6 @@ loop-passed-preserved g c = (
 
 pub returns-clause-frees : goal.returns-clause-frees
 returns-clause-frees g c =
-    does-as c.loop-passed.invariant.2
+    does-as c.loop-passed.invariant.1
     (λ before after size p is. pass-none c.args.self c.args.home c.args.reach c.loop-passed.passed before after
     (omega (arith, c.loop-passed-test.false)) (p is))

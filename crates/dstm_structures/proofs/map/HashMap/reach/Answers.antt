@@ -1,12 +1,6 @@
 use Rattle.dstm_structures.specs.Maps.{Reaches}
-use Rattle.dstm_structures.proofs.Looking.{does-shown, goes-notes}
+use Rattle.dstm_structures.proofs.Looking.{does-shown}
 use Rattle.dstm_structures.proofs.map.HashMap.reach.Goals as goal
-
-pub returns-in_err-reach-clause-notes : goal.returns-in_err-reach-clause-notes
-returns-in_err-reach-clause-notes g c = goes-notes c.in_err-reach.ensures.stays
-
-pub returns-clause-notes : goal.returns-clause-notes
-returns-clause-notes g c = goes-notes c.in_ok-reach.ensures.stays
 
 pub returns-clause-reaches : goal.returns-clause-reaches
 returns-clause-reaches g c = does-shown (Reaches c.args.self c.args.home c.in_ok-reach.reach) c.in_ok-reach.ensures.stays c.in_ok-reach.ensures.reaches

@@ -1,5 +1,4 @@
-use Rattle.std.proofs.Common.{◌≡◌, ap, rules}
-use Rattle.dstm_structures.specs.declared.cells.Slot.{Slot}
+use Rattle.std.proofs.Common.{rules}
 use Rattle.dstm_structures.proofs.Doing.{does-as, does-write}
 use Rattle.dstm_structures.proofs.Mapping.{sets-key}
 use Rattle.dstm_structures.proofs.map.HashMap.set_key.Goals as goal
@@ -7,8 +6,6 @@ use Rattle.dstm_structures.proofs.map.HashMap.set_key.Goals as goal
 pub returns-clause-sets : goal.returns-clause-sets
 returns-clause-sets g c =
     let (now, post, changes) = c.in_ok-_before.ensures.puts in
-    let had : Slot = c.in_ok-_before._before in
-    let is : now ≡ record had { key = c.args.key } = search rules in
     does-as (does-write changes)
-    (λ before after size writes. sets-key c.args.self c.args.at c.slot_at.result.object had now before after size c.requires
-    c.slot_at.ensures writes c.args.key (ap (λ (s : Slot). s.key) is) (ap (λ (s : Slot). s.reach) is))
+    (λ before after size writes. sets-key c.args.self c.args.at c.slot_at.result.object c.in_ok-_before._before now before
+    after size c.requires c.slot_at.ensures writes c.args.key (search rules))

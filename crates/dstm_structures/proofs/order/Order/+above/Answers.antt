@@ -2,7 +2,6 @@ use Rattle.std.proofs.Common.{◌∙◌, ◌/◌, ◌^◌, arith, refl, sym}
 use Rattle.dstm_structures.specs.Orders.{Follows, IsNext}
 use Rattle.dstm_structures.proofs.Doing.{does-as, does-is, does-read, does-still, does-then, does-thrice}
 use Rattle.dstm_structures.proofs.Mapping.{reads-key}
-use Rattle.dstm_structures.proofs.Noting.{notes_thrice, notes_twice}
 use Rattle.dstm_structures.proofs.Ordering.{finds-nothing, finds-stopped, follows-all, follows-later, follows-left, follows-no-tip, follows-none, follows-right, follows-tip}
 use Rattle.dstm_structures.proofs.order.Order.+above.Goals as goal
 
@@ -33,18 +32,10 @@ returns-then-fork-under-clause-follows g t c =
     fork.prefix fork.left fork.right (sym c.in-Fork.is ∙ c.link.ensures.is) (IsNext c.args.key) before after
     (omega (arith, c.if-fork-under.true)) looks.tells looks.same)
 
-pub returns-in_err-first-in-Fork-clause-notes : goal.returns-in_err-first-in-Fork-clause-notes
-returns-in_err-first-in-Fork-clause-notes g t c =
-    notes_twice c.in_ok-fork-in-Fork.ensures.notes c.in_err-first-in-Fork.ensures.notes
-
-pub returns-then-part-fork-clause-notes : goal.returns-then-part-fork-clause-notes
-returns-then-part-fork-clause-notes g t c =
-    notes_twice c.in_ok-fork-in-Fork.ensures.notes c.in_ok-first-in-Fork.ensures.notes
-
 pub returns-then-part-fork-clause-follows : goal.returns-then-part-fork-clause-follows
 returns-then-part-fork-clause-follows g t c =
     let fork = c.in_ok-fork-in-Fork.fork in
-    does-then c.in_ok-fork-in-Fork.ensures.keeps c.in_ok-fork-in-Fork.ensures.looks c.in_ok-first-in-Fork.ensures.ends
+    does-then c.in_ok-fork-in-Fork.ensures.goes.keeps c.in_ok-fork-in-Fork.ensures.looks c.in_ok-first-in-Fork.ensures.ends
     (λ before mid after size looks done. follows-all c.args.self.cells c.args.link c.args.under c.in-Fork.at fork.level
     fork.prefix fork.left fork.right (sym c.in-Fork.is ∙ c.link.ensures.is) c.args.key (c.args.key / 2 ^ fork.level) refl before mid
     looks.tells looks.same c.in_ok-first-in-Fork.first after (omega (arith, c.if-part-fork.true)) done)
@@ -61,18 +52,10 @@ pub above-requires : goal.above-requires
 above-requires g t c κs within =
     (omega (arith, c.if-fork-under.false, c.decreases), (within, omega (arith, c.if-fork-under.false, c.requires)))
 
-pub returns-in_err-right-in-Fork-clause-notes : goal.returns-in_err-right-in-Fork-clause-notes
-returns-in_err-right-in-Fork-clause-notes g t c =
-    notes_twice c.in_ok-fork-in-Fork.ensures.notes c.in_err-right-in-Fork.ensures.notes
-
-pub returns-then-part-eq1-clause-notes : goal.returns-then-part-eq1-clause-notes
-returns-then-part-eq1-clause-notes g t c =
-    notes_twice c.in_ok-fork-in-Fork.ensures.notes c.in_ok-right-in-Fork.ensures.notes
-
 pub returns-then-part-eq1-clause-follows : goal.returns-then-part-eq1-clause-follows
 returns-then-part-eq1-clause-follows g t c =
     let fork = c.in_ok-fork-in-Fork.fork in
-    does-then c.in_ok-fork-in-Fork.ensures.keeps
+    does-then c.in_ok-fork-in-Fork.ensures.goes.keeps
     c.in_ok-fork-in-Fork.ensures.looks c.in_ok-right-in-Fork.ensures.follows
     (λ before mid after size looks done. follows-right c.args.self.cells c.args.link c.args.under c.in-Fork.at fork.level
     fork.prefix fork.left fork.right (sym c.in-Fork.is ∙ c.link.ensures.is) c.args.key (c.args.key / 2 ^ fork.level) refl before mid
@@ -83,35 +66,20 @@ pub above-requires-in-Fork : goal.above-requires-in-Fork
 above-requires-in-Fork g t c κs within =
     (omega (arith, c.if-fork-under.false, c.decreases), (within, omega (arith, c.if-fork-under.false, c.requires)))
 
-pub returns-in_err-left-in-Fork-clause-notes : goal.returns-in_err-left-in-Fork-clause-notes
-returns-in_err-left-in-Fork-clause-notes g t c =
-    notes_twice c.in_ok-fork-in-Fork.ensures.notes c.in_err-left-in-Fork.ensures.notes
-
-pub returns-in-Some-clause-notes : goal.returns-in-Some-clause-notes
-returns-in-Some-clause-notes g t c = notes_twice c.in_ok-fork-in-Fork.ensures.notes c.in_ok-left-in-Fork.ensures.notes
-
 pub returns-in-Some-clause-follows : goal.returns-in-Some-clause-follows
 returns-in-Some-clause-follows g t c =
     let fork = c.in_ok-fork-in-Fork.fork in
-    does-then c.in_ok-fork-in-Fork.ensures.keeps c.in_ok-fork-in-Fork.ensures.looks
+    does-then c.in_ok-fork-in-Fork.ensures.goes.keeps c.in_ok-fork-in-Fork.ensures.looks
     (does-is (Follows c.args.self.cells c.args.key fork.left fork.level) c.in-Some.is c.in_ok-left-in-Fork.ensures.follows)
     (λ before mid after size looks done. follows-left c.args.self.cells c.args.link c.args.under c.in-Fork.at fork.level
     fork.prefix fork.left fork.right (sym c.in-Fork.is ∙ c.link.ensures.is) c.args.key (c.args.key / 2 ^ fork.level) refl before mid
     looks.tells looks.same c.in-Some.at after
     (omega (arith, c.if-part-fork.false, c.if-part-fork-2.false, c.if-part-eq1.false)) done)
 
-pub returns-in_err-later-in-Fork-clause-notes : goal.returns-in_err-later-in-Fork-clause-notes
-returns-in_err-later-in-Fork-clause-notes g t c =
-    notes_thrice c.in_ok-fork-in-Fork.ensures.notes c.in_ok-left-in-Fork.ensures.notes c.in_err-later-in-Fork.ensures.notes
-
-pub returns-in_ok-later-in-Fork-clause-notes : goal.returns-in_ok-later-in-Fork-clause-notes
-returns-in_ok-later-in-Fork-clause-notes g t c =
-    notes_thrice c.in_ok-fork-in-Fork.ensures.notes c.in_ok-left-in-Fork.ensures.notes c.in_ok-later-in-Fork.ensures.notes
-
 pub returns-in_ok-later-in-Fork-clause-follows : goal.returns-in_ok-later-in-Fork-clause-follows
 returns-in_ok-later-in-Fork-clause-follows g t c =
     let fork = c.in_ok-fork-in-Fork.fork in
-    does-thrice c.in_ok-fork-in-Fork.ensures.keeps c.in_ok-left-in-Fork.ensures.keeps c.in_ok-fork-in-Fork.ensures.looks
+    does-thrice c.in_ok-fork-in-Fork.ensures.goes.keeps c.in_ok-left-in-Fork.ensures.goes.keeps c.in_ok-fork-in-Fork.ensures.looks
     (does-is (Follows c.args.self.cells c.args.key fork.left fork.level) c.in_default.is c.in_ok-left-in-Fork.ensures.follows)
     c.in_ok-later-in-Fork.ensures.ends
     (λ before mid near after size looks none done. follows-later c.args.self.cells c.args.link c.args.under c.in-Fork.at

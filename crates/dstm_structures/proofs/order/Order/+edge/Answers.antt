@@ -1,7 +1,6 @@
 use Rattle.std.proofs.Common.{◌∙◌, arith, sym}
 use Rattle.dstm_structures.specs.Orders.{IsEdge}
 use Rattle.dstm_structures.proofs.Doing.{does-as, does-still, does-then}
-use Rattle.dstm_structures.proofs.Noting.{notes_twice}
 use Rattle.dstm_structures.proofs.Ordering.{ends-fork, ends-tip, finds-nothing, finds-stopped}
 use Rattle.dstm_structures.proofs.order.Order.+edge.Goals as goal
 
@@ -27,18 +26,10 @@ pub edge-requires : goal.edge-requires
 edge-requires g t c κs within =
     (omega (arith, c.if-fork-under.false, c.decreases), (within, omega (arith, c.if-fork-under.false, c.requires)))
 
-pub returns-in_err-place-in-Fork-clause-notes : goal.returns-in_err-place-in-Fork-clause-notes
-returns-in_err-place-in-Fork-clause-notes g t c =
-    notes_twice c.in_ok-fork-in-Fork.ensures.notes c.in_err-place-in-Fork.ensures.notes
-
-pub returns-in_ok-place-in-Fork-clause-notes : goal.returns-in_ok-place-in-Fork-clause-notes
-returns-in_ok-place-in-Fork-clause-notes g t c =
-    notes_twice c.in_ok-fork-in-Fork.ensures.notes c.in_ok-place-in-Fork.ensures.notes
-
 pub returns-in_ok-place-in-Fork-clause-ends : goal.returns-in_ok-place-in-Fork-clause-ends
 returns-in_ok-place-in-Fork-clause-ends g t c =
     let fork = c.in_ok-fork-in-Fork.fork in
-    does-then c.in_ok-fork-in-Fork.ensures.keeps c.in_ok-fork-in-Fork.ensures.looks c.in_ok-place-in-Fork.ensures.ends
+    does-then c.in_ok-fork-in-Fork.ensures.goes.keeps c.in_ok-fork-in-Fork.ensures.looks c.in_ok-place-in-Fork.ensures.ends
     (λ before mid after size looks ends. ends-fork c.args.self.cells c.args.link c.args.under c.in-Fork.at fork.level
     fork.prefix fork.left fork.right (sym c.in-Fork.is ∙ c.link.ensures.is) c.args.greatest c.side.result
     c.in_ok-place-in-Fork.place before mid after c.side.ensures looks.tells looks.same ends)

@@ -1,12 +1,13 @@
-use Rattle.std.proofs.Common.{◌∙◌, ℕ, ◌/◌, ◌^◌, refl, subst, sym}
+use Rattle.std.proofs.Common.{◌∙◌, ℕ, ◌/◌, ◌^◌, refl, subst, sym, arith}
+use Rattle.std.proofs.lemmas.Grind.{common_steps}
 use Rattle.std.specs.Prelude.{Option}
 use Rattle.dstm_structures.specs.Maps.{key_of}
 use Rattle.dstm_structures.specs.Tips.{AddsBeside}
 use Rattle.dstm_structures.proofs.Doing.{Reads, does-as, does-is, does-read, does-then}
 use Rattle.dstm_structures.proofs.Mapping.{reads-key}
-use Rattle.dstm_structures.proofs.Noting.{notes_twice}
 use Rattle.dstm_structures.proofs.Places.{some_is}
 use Rattle.dstm_structures.proofs.Tipping.{beside_none, beside_set}
+use Rattle.dstm_structures.proofs.Effects.{notes-stay}
 use Rattle.dstm_structures.proofs.order.Order.add_beside.Goals as goal
 
 pub returns-then-other-added-clause-adds : goal.returns-then-other-added-clause-adds
@@ -17,12 +18,6 @@ returns-then-other-added-clause-adds g c =
     (λ before after size reads. beside_none c.args.self.cells added.key added.at added.cell c.args.place
     c.slot_at.result.object c.in_ok-slot.slot.key before after c.slot_at.ensures
     (λ k e. some_is k c.in-Some.other (sym e ∙ c.in-Some.is) ∙ c.if-other-added.true) (reads-key reads)))
-
-pub returns-in_err-set_fork-clause-notes : goal.returns-in_err-set_fork-clause-notes
-returns-in_err-set_fork-clause-notes g c = notes_twice c.in_ok-slot.ensures.notes c.in_err-set_fork.ensures.notes
-
-pub returns-clause-notes : goal.returns-clause-notes
-returns-clause-notes g c = notes_twice c.in_ok-slot.ensures.notes c.in_ok-set_fork.ensures.notes
 
 pub returns-clause-adds : goal.returns-clause-adds
 returns-clause-adds g c =
@@ -37,3 +32,12 @@ returns-clause-adds g c =
     c.parted-fork.ensures.level c.parted-fork.ensures.prefix c.parted-fork.ensures.left c.parted-fork.ensures.right
     c.to_tip-2.ensures c.to_tip-3.ensures
     (subst (λ (o : Option ℕ). Reads key_of c.slot_at.result.object o before mid) c.in-Some.is (reads-key reads)) sets))
+
+pub returns-in_err-set_fork-clause-stops : goal.returns-in_err-set_fork-clause-stops
+returns-in_err-set_fork-clause-stops g c = let stay = notes-stay c.in_ok-slot.ensures.notes in grind (arith, common_steps)
+
+pub returns-clause-goes : goal.returns-clause-goes
+returns-clause-goes g c = record {
+  keeps = c.in_ok-set_fork.ensures.goes.keeps ∙ c.in_ok-slot.ensures.keeps;
+  notes = λ first noted. c.in_ok-set_fork.ensures.goes.notes first (c.in_ok-slot.ensures.notes first noted);
+}

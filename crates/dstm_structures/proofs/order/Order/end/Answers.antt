@@ -1,14 +1,7 @@
 use Rattle.dstm_structures.specs.Orders.{IsEdge}
 use Rattle.dstm_structures.proofs.Doing.{does-read, does-then}
-use Rattle.dstm_structures.proofs.Noting.{notes_twice}
 use Rattle.dstm_structures.proofs.Ordering.{finds-all}
 use Rattle.dstm_structures.proofs.order.Order.end.Goals as goal
-
-pub returns-in_err-place-clause-notes : goal.returns-in_err-place-clause-notes
-returns-in_err-place-clause-notes g c = notes_twice c.in_ok-root.ensures.notes c.in_err-place.ensures.notes
-
-pub returns-clause-notes : goal.returns-clause-notes
-returns-clause-notes g c = notes_twice c.in_ok-root.ensures.notes c.in_ok-place.ensures.notes
 
 pub returns-clause-ends : goal.returns-clause-ends
 returns-clause-ends g c =

@@ -1,11 +1,7 @@
 use Rattle.dstm_structures.proofs.Doing.{does-as, does-read, does-still, then-read}
 use Rattle.dstm_structures.proofs.Mapping.{reads-key}
-use Rattle.dstm_structures.proofs.Noting.{notes_still, notes_twice}
 use Rattle.dstm_structures.proofs.Placing.{looks-keyless, looks-nowhere, looks-there}
 use Rattle.dstm_structures.proofs.ordered.OrderedMap.entry.Goals as goal
-
-pub returns-in_default-clause-notes : goal.returns-in_default-clause-notes
-returns-in_default-clause-notes g c = notes_still
 
 pub returns-in_default-clause-looks : goal.returns-in_default-clause-looks
 returns-in_default-clause-looks g c =
@@ -16,12 +12,6 @@ returns-in_default-key-clause-looks g c =
     does-as (does-read c.in_ok-slot.ensures.gets)
     (λ before after size reads. looks-keyless g.V.Word.found c.args.self c.args.place c.in-Some.at c.slot_at.result.object
     c.in_ok-slot.slot.key before after c.in-Some.is c.slot_at.ensures c.in_default-key.is (reads-key reads))
-
-pub returns-in_err-value-clause-notes : goal.returns-in_err-value-clause-notes
-returns-in_err-value-clause-notes g c = notes_twice c.in_ok-slot.ensures.notes c.in_err-value.ensures.notes
-
-pub returns-clause-notes : goal.returns-clause-notes
-returns-clause-notes g c = notes_twice c.in_ok-slot.ensures.notes c.in_ok-value.ensures.notes
 
 pub returns-clause-looks : goal.returns-clause-looks
 returns-clause-looks g c =

@@ -1,13 +1,12 @@
-use Rattle.std.proofs.Common.{◌∙◌, ℕ, List, subst, sym}
+use Rattle.std.proofs.Common.{ℕ, List, subst, sym}
+use Rattle.dstm_structures.specs.Effects.{goes-again}
 use Rattle.dstm_structures.proofs.Doing.{does-as, does-then}
 use Rattle.dstm_structures.proofs.Items.{Walking, walk-end, walk-next, walk-start}
-use Rattle.dstm_structures.proofs.Noting.{notes_twice}
 use Rattle.dstm_structures.proofs.ordered.OrderedMap.to_vec.Goals as goal
 
 pub loop-next-init : goal.loop-next-init
 loop-next-init g c = (
-  c.in_ok-next.ensures.keeps,
-  c.in_ok-next.ensures.notes,
+  c.in_ok-next.ensures.goes,
   does-as c.in_ok-next.ensures.tells
       (λ before after size tells. subst (λ (xs : List (ℕ × g.row.V.Denot)).
       Walking g.V.Word.found c.args.self xs c.in_ok-next.next before after) (sym c.new-items.ensures.items)
@@ -15,14 +14,10 @@ loop-next-init g c = (
   c.in_ok-next.ensures.may,
 )
 
-pub returns-in_err-above-clause-notes : goal.returns-in_err-above-clause-notes
-returns-in_err-above-clause-notes g c = notes_twice c.loop-next.invariant.1 c.in_err-above.ensures.notes
-
 pub loop-next-preserved : goal.loop-next-preserved
 loop-next-preserved g c = (
-  c.in_ok-above.ensures.keeps ∙ c.loop-next.invariant.0,
-  notes_twice c.loop-next.invariant.1 c.in_ok-above.ensures.notes,
-  does-then c.loop-next.invariant.0 c.loop-next.invariant.2
+  goes-again c.loop-next.invariant.0 c.in_ok-above.ensures.goes,
+  does-then c.loop-next.invariant.0.keeps c.loop-next.invariant.1
       c.in_ok-above.ensures.tells (λ before mid after size walking tells. subst (λ (xs : List (ℕ × g.row.V.Denot)).
       Walking g.V.Word.found c.args.self xs c.if_above-next.result before after) (sym c.in_ok-push.ensures.items)
       (walk-next g.V.Word.found c.args.self c.loop-next.items.items c.in-Some.entry c.loop-next.next c.in_ok-above.above
@@ -32,9 +27,9 @@ loop-next-preserved g c = (
 
 pub returns-clause-lists : goal.returns-clause-lists
 returns-clause-lists g c =
-    does-as c.loop-next.invariant.2
+    does-as c.loop-next.invariant.1
     (λ before after size. walk-end g.V.Word.found c.args.self c.loop-next.items.items c.loop-next.next before after
     c.in_default.is)
 
 pub returns-clause-may : goal.returns-clause-may
-returns-clause-may g c = c.loop-next.invariant.3
+returns-clause-may g c = c.loop-next.invariant.2

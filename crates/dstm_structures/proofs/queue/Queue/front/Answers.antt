@@ -1,12 +1,5 @@
-use Rattle.dstm_structures.proofs.Effects.{fronted}
-use Rattle.dstm_structures.proofs.Noting.{notes_twice}
+use Rattle.dstm_structures.proofs.Effects.{first-inside, fronted, opens-ends, opens-front}
 use Rattle.dstm_structures.proofs.queue.Queue.front.Goals as goal
-
-pub returns-in_err-front-clause-notes : goal.returns-in_err-front-clause-notes
-returns-in_err-front-clause-notes g c = notes_twice c.in_ok-ends.ensures.notes c.in_err-front.ensures.notes
-
-pub returns-clause-notes : goal.returns-clause-notes
-returns-clause-notes g c = notes_twice c.in_ok-ends.ensures.notes c.in_ok-front.ensures.notes
 
 pub returns-clause-fronts : goal.returns-clause-fronts
 returns-clause-fronts g c =
@@ -14,3 +7,12 @@ returns-clause-fronts g c =
     c.get-2.new.self.attempts.caller c.in_ok-ends.ends c.within-at.result c.ends.result.object c.place.result.object
     c.in_ok-front.front c.ends.ensures c.within-at.ensures c.if-count-eq0.false c.place.ensures
     c.in_ok-ends.ensures.gets c.in_ok-front.ensures.gets
+
+pub returns-then-count-eq0-clause-opens : goal.returns-then-count-eq0-clause-opens
+returns-then-count-eq0-clause-opens g c = opens-ends g.L.Law.holds g.T.Word.found c.args.self _ _ c.ends.ensures c.in_ok-ends.ensures.once
+
+pub returns-clause-opens : goal.returns-clause-opens
+returns-clause-opens g c =
+    opens-front g.L.Law.holds g.T.Word.found c.args.self _ _ _ c.in_ok-front.front
+    (first-inside g.L.Law.holds g.T.Word.found c.args.self c.in_ok-ends.ends c.within-at.result c.within-at.ensures
+    c.if-count-eq0.false) c.ends.ensures c.place.ensures c.in_ok-ends.ensures.once c.in_ok-front.ensures.once

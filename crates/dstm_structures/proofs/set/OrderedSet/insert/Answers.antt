@@ -1,7 +1,8 @@
 use Rattle.std.proofs.Common.{◌∙◌, arith, sym}
+use Rattle.std.proofs.lemmas.Grind.{common_steps}
 use Rattle.dstm_structures.proofs.Doing.{does-as, does-then, does-wider}
-use Rattle.dstm_structures.proofs.Noting.{notes_twice}
 use Rattle.dstm_structures.proofs.Sets.{inserts-absent, inserts-there}
+use Rattle.dstm_structures.proofs.Effects.{goes-stay}
 use Rattle.dstm_structures.proofs.set.OrderedSet.insert.Goals as goal
 
 pub returns-then-is_some-clause-inserts : goal.returns-then-is_some-clause-inserts
@@ -10,15 +11,12 @@ returns-then-is_some-clause-inserts g c =
     (λ before after size. inserts-there c.args.self c.args.key c.in_ok-found.found before after
     (sym c.is_some.ensures ∙ c.if-is_some.true))
 
-pub returns-in_err-placed-clause-notes : goal.returns-in_err-placed-clause-notes
-returns-in_err-placed-clause-notes g c = notes_twice c.in_ok-found.ensures.notes c.in_err-placed.ensures.notes
-
-pub returns-clause-notes : goal.returns-clause-notes
-returns-clause-notes g c = notes_twice c.in_ok-found.ensures.notes c.in_ok-placed.ensures.notes
-
 pub returns-clause-inserts : goal.returns-clause-inserts
 returns-clause-inserts g c =
-    does-then c.in_ok-found.ensures.keeps (does-wider (omega arith) c.in_ok-found.ensures.seeks)
+    does-then c.in_ok-found.ensures.goes.keeps (does-wider (omega arith) c.in_ok-found.ensures.seeks)
     c.in_ok-placed.ensures.adds
     (λ before mid after size. inserts-absent c.args.self c.args.key _ c.in_ok-found.found c.in_ok-placed.placed
     c.inserted_by.result before mid after (sym c.is_some.ensures ∙ c.if-is_some.false) c.inserted_by.ensures)
+
+pub returns-in_err-placed-clause-stops : goal.returns-in_err-placed-clause-stops
+returns-in_err-placed-clause-stops g c = let stay = goes-stay c.in_ok-found.ensures.goes in grind (arith, common_steps)
