@@ -42,11 +42,6 @@ module _ (holds : AnyLaw → List Val → Type 0) where
         ∙ set-get_or (seen old.attempts.caller map) o no_value;
   }
 
-  -- nothing was undone yet
-  pub undoes_none : (first added : List Undo) (old : Thread) → old.undos.items ≡ first ++ added →
-      Undoes holds first added added old old
-  undoes_none first added old is = record { is = is; narrows = λ map may. may; back = λ map may. refl }
-
   undoes_one : (first added left : List Undo) (undo : Undo) (k m n : Thread) (had : Val) →
       Undoes holds first added (left ++ (undo ∷ [])) k m → n.undos.items ≡ first ++ left →
       Exchanges holds m.attempts.caller n.attempts.caller undo.object had undo.value → Undoes holds first added left k n

@@ -26,6 +26,22 @@ abbrev pub OfMemory : (goes : Memory → Memory → Type 0) → Held → Held �
 OfMemory goes (held.Memory old) (held.Memory new) = goes old new
 OfMemory goes old new = ⊥
 
+-- the same of a memory; and a part stays as it is
+abbrev pub IfMemory : (goes : Memory → Memory → Type 0) → Held → Held → Type 0
+IfMemory goes (held.Memory old) (held.Memory new) = goes old new
+IfMemory goes (held.Thread old) (held.Thread new) = new ≡ old
+IfMemory goes old new = ⊥
+
+-- it is a memory
+abbrev pub IsMemory : Held → Type 0
+IsMemory (held.Memory m) = Unit {0}
+IsMemory (held.Thread t) = ⊥
+
+-- it is a part
+abbrev pub IsPart : Held → Type 0
+IsPart (held.Memory m) = ⊥
+IsPart (held.Thread t) = Unit {0}
+
 -- a handle is not closed before nor after, and this has become of what it stands for
 abbrev pub Opened : (goes : Held → Held → Type 0) → Option Held → Option Held → Type 0
 Opened goes (Some old) (Some new) = goes old new

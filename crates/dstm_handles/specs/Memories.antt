@@ -4,10 +4,14 @@ use Rattle.std.specs.Arc.{arc_value}
 use Rattle.dstm_model.specs.declared.value.AnyLaw.{AnyLaw}
 use Rattle.dstm_model.specs.declared.value.Val.{Val}
 use Rattle.dstm_tables.specs.Callers.{home_of}
+use Rattle.dstm_tables.specs.Engines.{WorksBy}
 use Rattle.dstm_tables.specs.Tables.{objects_there, start_there}
 use Rattle.dstm_tables.specs.declared.tables.Caller.{Caller}
 use Rattle.dstm_tables.specs.declared.tables.Table.{Table}
-use Rattle.dstm_attempts.specs.Attempts.{Settles}
+use Rattle.dstm_attempts.specs.Attempts.{AddsNothing, Begins, Keeps, Settles, TakesEffect}
+use Rattle.dstm_handles.specs.declared.code.Code.{Code}
+use Rattle.dstm_handles.specs.declared.code.Code.TheVariants.{Busy, Spent}
+use Rattle.dstm_handles.specs.declared.code.Code.TheVariants as code
 use Rattle.dstm_handles.specs.declared.memory.Home.{Home}
 use Rattle.dstm_handles.specs.declared.memory.Memory.{Memory}
 use Rattle.dstm_handles.specs.declared.thread.Thread.{Thread}
@@ -29,13 +33,58 @@ abbrev pub IsAt : Option Home → Table AnyLaw → Type 0
 IsAt None table = ⊥
 IsAt (Some home) table = table_at home ≡ table
 
+-- WHY A MEMORY DOES NOT TAKE ITS VALUES BACK: threads have parts in it, or came between; or its own part is spent; or there was
+-- not enough memory
+abbrev pub IsWithheld : Code → Type 0
+IsWithheld why = (why ≡ Busy) ⊎ (why ≡ Spent) ⊎ (why ≡ code.Memory)
+
+-- a table stays, and its founder has given out no part; the memory's own part has committed nothing more
+pub record StaysHome (old new : Home) : Type 0 where
+  pub table : table_at new ≡ table_at old
+  pub founder : new.founder ≡ old.founder
+  pub own : AddsNothing old.last.attempts.caller new.last.attempts.caller
+
+-- the same of the table that a memory has; and where it has none, it has none
+abbrev pub KeepsHome : Option Home → Option Home → Type 0
+KeepsHome None None = Unit {0}
+KeepsHome (Some old) (Some new) = StaysHome old new
+KeepsHome old new = ⊥
+
+-- what the memory was told stays
+pub record KeepsTerms (old new : Memory) : Type 0 where
+  pub engine : new.engine ≡ old.engine
+  pub threads : new.threads ≡ old.threads
+
+-- a memory has taken nothing back: it has the values that it had, and the table
+pub record StaysOut (old new : Memory) : Type 0 where
+  pub values : new.values.items ≡ old.values.items
+  pub home : KeepsHome old.home new.home
+
+-- the table stays, and the memory's own part
+abbrev pub GivesAtHome : Option Home → Option Home → Type 0
+GivesAtHome (Some old) (Some new) = (table_at new ≡ table_at old) × (new.last ≡ old.last)
+GivesAtHome old new = ⊥
+
+-- a part was given out of the table that a memory has, and goes on to have
+pub record GivesMore (old new : Memory) (part : Thread) : Type 0 where
+  pub values : new.values.items ≡ old.values.items
+  pub home : GivesAtHome old.home new.home
+  pub at : IsAt new.home (home_of part.attempts.caller)
+
 module _ (holds : AnyLaw → List Val → Type 0) where
-  -- THE VALUES OF ALL CELLS WERE READ: the caller has committed one transaction more, and in every run these are
-  -- their values at its place in the order of all transactions, before it and after it
+  -- THE VALUES OF ALL CELLS WERE READ: an attempt of the caller has begun, before which it had committed nothing more, and has
+  -- taken effect. So the caller has committed one transaction more, and in every run these are the values of the cells at its
+  -- place in the order of all transactions, before it and after it.
   pub record ReadsAll (k : Caller AnyLaw) (values : List Val) : Type 0 where
+    pub before : Caller AnyLaw
+    pub nothing : AddsNothing k before
+    pub began : Caller AnyLaw
+    pub begins : Begins holds before began
+    pub last : Caller AnyLaw
+    pub keeps : Keeps began last
     pub after : Caller AnyLaw
-    pub number : ℕ
-    pub settles : Settles holds (AreValues values) k after number
+    pub takes : TakesEffect holds last after
+    pub settles : Settles holds (AreValues values) k after takes.number
 
   -- WHAT A MEMORY HAS WHEN IT HAS TAKEN ITS VALUES BACK: those that it had, where there was no table; and else those
   -- that its own part has read of all cells together
@@ -62,3 +111,23 @@ module _ (holds : AnyLaw → List Val → Type 0) where
   -- A PART IS ONE OF THE TABLE THAT WAS THERE, or of a new one
   abbrev pub GivesPart : Memory → Thread → Type 0
   GivesPart old part = IsAt old.home (home_of part.attempts.caller) ⊎ GivesNew old part
+
+  -- a memory has taken its values back, and has no table
+  pub record IsSettled (old new : Memory) : Type 0 where
+    pub settled : HasSettled old new.values.items
+    pub home : new.home ≡ None
+
+  -- WHAT A CALL LEAVES THAT HAS FAILED: nothing is lost. The memory has taken nothing back, or all its values.
+  abbrev pub KeepsCells : Memory → Memory → Type 0
+  KeepsCells old new = StaysOut old new ⊎ IsSettled old new
+
+  -- a part was given out of a new table, which works by the memory's engine and was made of the values that it has taken back
+  pub record GivesFirst (old new : Memory) (part : Thread) : Type 0 where
+    pub settled : HasSettled old new.values.items
+    pub starts : StartsWith new.values.items (home_of part.attempts.caller)
+    pub works : WorksBy new.engine (home_of part.attempts.caller)
+    pub at : IsAt new.home (home_of part.attempts.caller)
+
+  -- A PART WAS GIVEN OUT of the table that the memory has then: of the one that it had, or of a new one
+  abbrev pub Gives : Memory → Memory → Thread → Type 0
+  Gives old new part = GivesMore old new part ⊎ GivesFirst old new part

@@ -1,11 +1,13 @@
 -- What a look of a transaction finds. Before the first one it lets go of what it has set.
-use Rattle.std.specs.Prelude.{◌≡◌, ◌⊎◌, Bool, false, true, List}
+use Rattle.std.specs.Prelude.{◌≡◌, ◌≢◌, ◌⊎◌, Bool, false, true, List}
 use Rattle.dstm_model.specs.declared.value.Val.{Val}
 use Rattle.dstm_model.specs.declared.value.AnyLaw.{AnyLaw}
 use Rattle.dstm_tables.specs.declared.tables.Caller.{Caller}
-use Rattle.dstm_attempts.specs.Attempts.{LooksChanged, LooksSame, LooksSpent}
+use Rattle.dstm_attempts.specs.Attempts.{LooksChanged, LooksOnce, LooksSame, LooksSpent}
 use Rattle.dstm_attempts.specs.Waiting.{IsSpentLettingGo, LetsGo}
 use Rattle.dstm_attempts.specs.Waiting as attempts
+use Rattle.dstm_handles.specs.declared.code.Code.{Code}
+use Rattle.dstm_handles.specs.declared.code.Code.TheVariants.{Again, Done, Idle, Memory, Spent}
 use Rattle.dstm_handles.specs.declared.thread.Thread.{Thread}
 
 -- every map is lawful
@@ -35,12 +37,14 @@ pub record FindsNoChange (old new : Thread) : Type 0 where
   pub first : Caller AnyLaw
   pub lets_go : LetsGoBefore old.waits old.attempts.caller first
   pub looks : LooksSame old.since first new.attempts.caller
+  pub once : LooksOnce any first new.attempts.caller
 
 -- a look has found a change
 pub record LooksOnChanged (old new : Thread) : Type 0 where
   pub first : Caller AnyLaw
   pub lets_go : LetsGoBefore old.waits old.attempts.caller first
   pub looks : LooksChanged any old.since first new.attempts.caller
+  pub once : LooksOnce any first new.attempts.caller
 
 abbrev pub FindsChange : Thread → Thread → Type 0
 FindsChange old new = FindsChangeBefore old.waits old.attempts.caller new.attempts.caller ⊎ LooksOnChanged old new
@@ -57,3 +61,16 @@ IsSpentLooking old new = IsSpentBefore old.waits old.attempts.caller new.attempt
 -- no memory was left to let go
 abbrev pub HasNoRoom : Thread → Thread → Type 0
 HasNoRoom old new = HasNoRoomBefore old.waits old.attempts.caller new.attempts.caller
+
+-- WHAT A LOOK ANSWERS, and what it leaves
+pub record Looks (old new : Thread) (code : Code) : Type 0 where
+  pub same : code ≡ Done → FindsNoChange old new
+  pub changed : code ≡ Again → FindsChange old new
+  pub spent : code ≡ Spent → IsSpentLooking old new
+  pub memory : code ≡ Memory → HasNoRoom old new
+  pub waits : code ≢ Idle → new.waits ≡ true
+  pub idle : old.begun ≡ false → code ≡ Idle
+  pub still : old.begun ≡ false → new ≡ old
+  pub tells : old.begun ≡ true → (code ≡ Done) ⊎ (code ≡ Again) ⊎ (code ≡ Spent) ⊎ (code ≡ Memory)
+  pub begun : code ≢ Spent → new.begun ≡ old.begun
+  pub over : code ≡ Spent → new.begun ≡ false

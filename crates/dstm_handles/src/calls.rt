@@ -1,10 +1,10 @@
 // The calls of a thread's part.
-ghost use Rattle.std.specs.Prelude.{◌≡◌, ◌≢◌, ◌<◌, ◌++◌, List, [], ◌∷◌, length, true, false, None, IfErr, IfOk, IfSome, Ok, OnOk};
+ghost use Rattle.std.specs.Prelude.{◌≡◌, ◌≢◌, ◌⊎◌, ◌<◌, ◌++◌, List, [], ◌∷◌, length, true, false, None, IfErr, IfOk, IfSome, Ok, OnOk};
 ghost use Rattle.std.specs.Arc.{arc_value};
-ghost use Rattle.dstm_attempts.specs.Attempts.{AddsNothing, Begins, Exchanges, Finds, IsClosed, IsSpent, LooksChanged, LooksSame, LooksSpent, MayBegin, SetsNothing, TakesEffect, clock, goes_on};
+ghost use Rattle.dstm_attempts.specs.Attempts.{AddsNothing, Begins, Exchanges, Finds, IsAbandoned, IsClosed, IsQuit, IsSpent, LooksChanged, LooksOnce, LooksSame, LooksSpent, MayBegin, Opens, SetsNothing, StoodTogether, TakesEffect, begun, clock, goes_on};
 ghost use Rattle.dstm_model.specs.declared.value.Val.{Val};
 ghost use Rattle.dstm_tables.specs.Callers.{home_of};
-ghost use Rattle.dstm_handles.specs.Threads.{GoesOn, MayCall, Refuses, RefusesAll, RefusesBy, code_for, starting};
+ghost use Rattle.dstm_handles.specs.Threads.{GoesOn, HasNoMark, IsOpen, MayCall, Refuses, RefusesAll, RefusesBy, StopsChange, StopsCommit, StopsLook, StopsUndoing, WasRefused, code_for, starting};
 ghost use Rattle.dstm_handles.specs.Undoing.{IsNoted, Undoes};
 ghost use Rattle.dstm_handles.specs.Waiting.{FindsChange, FindsChangeBefore, FindsNoChange, HasNoRoom, HasNoRoomBefore, IsSpentBefore, IsSpentLooking, LetsGoBefore};
 ghost use Rattle.dstm_attempts.specs.declared.error.Look.TheVariants as look;
@@ -50,7 +50,12 @@ impl Thread {
         ensures since { result ≡ Done → self.new.since ≡ clock self.new.attempts.caller }
         ensures spent { result ≡ Spent → IsSpent self.new.attempts.caller }
         ensures over { result ≡ Spent → self.new.begun ≡ false }
+        ensures unnoted { result ≡ Done → HasNoMark self.new }
+        ensures none { result ≡ Spent → begun self.new.attempts.caller ≡ begun (starting self.old) }
+        ensures quit { result ≡ Spent → IsQuit self.new.attempts.caller }
         ensures stays { result ≡ Open → GoesOn self.old self.new }
+        ensures live { result ≡ Open → IsOpen self.old self.new }
+        ensures tells { (result ≡ Done) ⊎ (result ≡ Spent) ⊎ (result ≡ Open) }
         ensures under_way { MayCall self.old → goes_on self.old.attempts.caller ≡ true → result ≡ Open }
         ensures nothing { AddsNothing self.old.attempts.caller self.new.attempts.caller }
     {
@@ -72,7 +77,11 @@ impl Thread {
         ensures since { result ≡ Done → self.new.since ≡ clock self.new.attempts.caller }
         ensures spent { result ≡ Spent → IsSpent self.new.attempts.caller }
         ensures over { result ≡ Spent → self.new.begun ≡ false }
+        ensures unnoted { result ≡ Done → HasNoMark self.new }
+        ensures none { result ≡ Spent → begun self.new.attempts.caller ≡ begun self.old.attempts.caller }
+        ensures quit { result ≡ Spent → IsQuit self.new.attempts.caller }
         ensures one { result ≢ Open }
+        ensures tells { (result ≡ Done) ⊎ (result ≡ Spent) }
         ensures nothing { AddsNothing self.old.attempts.caller self.new.attempts.caller }
     {
         self.undos.clear();
@@ -100,6 +109,10 @@ impl Thread {
         ensures finds { IfOk result (Finds ⟦<AnyLaw as Law>⟧.holds self.old.attempts.caller self.new.attempts.caller
             cell) }
         ensures may { OnOk result ((map : List Val) × MayBegin ⟦<AnyLaw as Law>⟧.holds self.new.attempts.caller map) }
+        ensures once { OnOk result (Opens ⟦<AnyLaw as Law>⟧.holds false cell self.old.attempts.caller
+            self.new.attempts.caller) }
+        ensures together { OnOk result (StoodTogether ⟦<AnyLaw as Law>⟧.holds self.new.attempts.caller) }
+        ensures stops { IfErr result (StopsLook ⟦<AnyLaw as Law>⟧.holds cell self.old self.new) }
         ensures fails { IfErr result (λ why. why ≢ Done) }
         ensures unset { IfErr result (λ why.
             SetsNothing ⟦<AnyLaw as Law>⟧.holds self.old.attempts.caller self.new.attempts.caller) }
@@ -120,6 +133,15 @@ impl Thread {
         ensures refuses { Refuses self.old cell result }
         ensures puts { IfOk result (λ had.
             Exchanges ⟦<AnyLaw as Law>⟧.holds self.old.attempts.caller self.new.attempts.caller cell had value) }
+        ensures may { OnOk result ((map : List Val) × MayBegin ⟦<AnyLaw as Law>⟧.holds self.new.attempts.caller map) }
+        ensures once { OnOk result (Opens ⟦<AnyLaw as Law>⟧.holds true cell self.old.attempts.caller
+            self.new.attempts.caller) }
+        ensures together { OnOk result (StoodTogether ⟦<AnyLaw as Law>⟧.holds self.new.attempts.caller) }
+        ensures notes { IfOk result (λ had. self.old.notes ≡ true
+            → self.new.undos.items ≡ self.old.undos.items ++ (record { object = cell; value = had } ∷ [])) }
+        ensures unnoted { self.old.notes ≡ false → self.new.undos.items ≡ self.old.undos.items }
+        ensures undos { IfErr result (λ why. self.new.undos.items ≡ self.old.undos.items) }
+        ensures stops { IfErr result (StopsChange ⟦<AnyLaw as Law>⟧.holds cell self.old self.new) }
         ensures fails { IfErr result (λ why. why ≢ Done) }
         ensures unset { IfErr result (λ why.
             SetsNothing ⟦<AnyLaw as Law>⟧.holds self.old.attempts.caller self.new.attempts.caller) }
@@ -153,6 +175,8 @@ impl Thread {
         ensures over { result ≡ Done → self.new.begun ≡ false }
         ensures home { home_of self.new.attempts.caller ≡ home_of self.old.attempts.caller }
         ensures nothing { result ≢ Done → AddsNothing self.old.attempts.caller self.new.attempts.caller }
+        ensures goes_on { result ≢ Done → GoesOn self.old self.new }
+        ensures stops { result ≢ Done → StopsCommit ⟦<AnyLaw as Law>⟧.holds self.old self.new result }
         ensures refuses { RefusesBy self.old (λ code. result ≡ code) }
     {
         if let Some(code) = self.refused() {
@@ -167,6 +191,9 @@ impl Thread {
 
     /// Gives the transaction up: nobody sees what it has set.
     pub fn abort(&mut self) -> Code
+        ensures leaves { self.old.begun ≡ true → IsAbandoned ⟦<AnyLaw as Law>⟧.holds self.old.attempts.caller
+            self.new.attempts.caller }
+        ensures still { self.old.begun ≡ false → self.new ≡ self.old }
         ensures nothing { AddsNothing self.old.attempts.caller self.new.attempts.caller }
         ensures over { self.new.begun ≡ false }
         ensures idle { self.old.begun ≡ false → result ≡ Idle }
@@ -191,6 +218,11 @@ impl Thread {
         ensures waits { result ≢ Idle → self.new.waits ≡ true }
         ensures since { self.new.since ≡ self.old.since }
         ensures idle { self.old.begun ≡ false → result ≡ Idle }
+        ensures still { self.old.begun ≡ false → self.new ≡ self.old }
+        ensures tells { self.old.begun ≡ true → (result ≡ Done) ⊎ (result ≡ Again) ⊎ (result ≡ Spent)
+            ⊎ (result ≡ Memory) }
+        ensures begun { result ≢ Spent → self.new.begun ≡ self.old.begun }
+        ensures over { result ≡ Spent → self.new.begun ≡ false }
         ensures nothing { AddsNothing self.old.attempts.caller self.new.attempts.caller }
     {
         if !self.begun {
@@ -209,7 +241,8 @@ impl Thread {
 
     // Lets go of what the transaction has set, where it has not looked yet.
     fn let_go(&mut self) -> Result<Look, AllocError>
-        ensures same { result ≡ Ok look.Same → LetsGoBefore self.old.waits self.old.attempts.caller self.new.attempts.caller }
+        ensures same { result ≡ Ok look.Same → LetsGoBefore self.old.waits
+            self.old.attempts.caller self.new.attempts.caller }
         ensures changed { result ≡ Ok look.Changed → FindsChangeBefore self.old.waits self.old.attempts.caller
             self.new.attempts.caller }
         ensures spent { result ≡ Ok look.Spent → IsSpentBefore self.old.waits self.old.attempts.caller
@@ -218,6 +251,7 @@ impl Thread {
             self.new.attempts.caller) }
         ensures waits { self.new.waits ≡ true }
         ensures since { self.new.since ≡ self.old.since }
+        ensures begun { self.new.begun ≡ self.old.begun }
         ensures nothing { AddsNothing self.old.attempts.caller self.new.attempts.caller }
     {
         if self.waits {
@@ -233,7 +267,12 @@ impl Thread {
         ensures changed { result ≡ Again → LooksChanged ⟦<AnyLaw as Law>⟧.holds self.old.since
             self.old.attempts.caller self.new.attempts.caller }
         ensures spent { result ≡ Spent → LooksSpent self.old.attempts.caller self.new.attempts.caller }
+        ensures once { (result ≡ Done) ⊎ (result ≡ Again) → LooksOnce ⟦<AnyLaw as Law>⟧.holds self.old.attempts.caller
+            self.new.attempts.caller }
         ensures only { (result ≢ Memory) × (result ≢ Idle) }
+        ensures tells { (result ≡ Done) ⊎ (result ≡ Again) ⊎ (result ≡ Spent) }
+        ensures begun { result ≢ Spent → self.new.begun ≡ self.old.begun }
+        ensures over { result ≡ Spent → self.new.begun ≡ false }
         ensures waits { self.new.waits ≡ self.old.waits }
         ensures since { self.new.since ≡ self.old.since }
         ensures nothing { AddsNothing self.old.attempts.caller self.new.attempts.caller }
@@ -254,6 +293,8 @@ impl Thread {
         ensures notes { OnOk result (self.new.notes ≡ true) }
         ensures same { self.new.attempts.caller ≡ self.old.attempts.caller }
         ensures undos { self.new.undos.items ≡ self.old.undos.items }
+        ensures goes_on { OnOk result (self.new ≡ record self.old { notes = true }) }
+        ensures stops { IfErr result (λ why. WasRefused self.old self.new) }
         ensures refuses { RefusesAll self.old result }
         ensures fails { IfErr result (λ why. why ≢ Done) }
     {
@@ -271,6 +312,7 @@ impl Thread {
             → length first ≡ mark → Undoes ⟦<AnyLaw as Law>⟧.holds first added [] self.old self.new }
         ensures left { (first added : List Undo) → self.old.undos.items ≡ first ++ added → length first ≡ mark
             → (left : List Undo) × Undoes ⟦<AnyLaw as Law>⟧.holds first added left self.old self.new }
+        ensures stops { result ≢ Done → StopsUndoing ⟦<AnyLaw as Law>⟧.holds mark self.old self.new result }
         ensures range { MayCall self.old → length self.old.undos.items < mark → result ≡ Range }
         ensures refuses { RefusesBy self.old (λ code. result ≡ code) }
     {
@@ -326,7 +368,8 @@ fn code_of(why: NotOpened) -> Code
 #[inline]
 fn note_undo(undos: &mut Vec<Undo>, notes: bool, undo: Undo) -> Result<(), AllocFailed<Undo>>
     ensures noted { OnOk result (notes ≡ true → undos.new.items ≡ undos.old.items ++ (undo ∷ [])) }
-    ensures failed { IfErr result (λ why. undos.new.items ≡ undos.old.items) }
+    ensures unnoted { OnOk result (notes ≡ false → undos.new.items ≡ undos.old.items) }
+    ensures failed { IfErr result (λ why. (notes ≡ true) × (undos.new.items ≡ undos.old.items)) }
 {
     if !notes {
         return Ok(());

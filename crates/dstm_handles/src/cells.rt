@@ -1,14 +1,17 @@
 // The calls of a memory.
-ghost use Rattle.std.specs.Prelude.{◌≡◌, ◌≢◌, ◌<◌, ◌≤◌, List, [], length, false, None, IfErr, IfOk, OnOk};
+ghost use Rattle.std.specs.Prelude.{◌≡◌, ◌≢◌, ◌⊎◌, ◌↔◌, Err, ◌<◌, ◌≤◌, List, [], length, false, None, IfErr, IfOk, OnOk};
 ghost use Rattle.dstm_attempts.specs.Attempts.{AddsNothing, IsUntouched, Keeps, MayBegin, objects_of};
 ghost use Rattle.dstm_model.specs.Map.{value_at};
 ghost use Rattle.dstm_model.specs.declared.value.AnyLaw.{AnyLaw as AnyLawValue};
 ghost use Rattle.dstm_model.specs.declared.value.Val.{Val};
 ghost use Rattle.dstm_tables.specs.Callers.{home_of};
+ghost use Rattle.dstm_tables.specs.Engines.{WorksBy};
 ghost use Rattle.dstm_tables.specs.Tables.{objects_there};
 ghost use Rattle.dstm_tables.specs.declared.tables.Caller.{Caller};
-ghost use Rattle.dstm_handles.specs.Memories.{GivesPart, Grows, HasSettled, IsAt, ReadsAll, StartsWith, table_at};
-ghost use Rattle.dstm_handles.specs.declared.code.Code.TheVariants.{Done, Range};
+ghost use Rattle.dstm_handles.specs.Memories.{Gives, GivesAtHome, GivesPart, Grows, HasSettled, IsAt, IsWithheld, KeepsCells, KeepsTerms, ReadsAll, StartsWith, StaysOut, table_at};
+ghost use Rattle.dstm_handles.specs.Threads.{MayCall};
+ghost use Rattle.dstm_handles.specs.declared.code.Code.TheVariants.{Again, Done, Foreign, Full, Range, Spent};
+ghost use Rattle.dstm_handles.specs.declared.code.Code.TheVariants as code;
 
 use crate::code::Code;
 use crate::memory::{Home, Memory};
@@ -36,6 +39,7 @@ impl Memory {
         ensures empty { IfOk result (λ memory. (memory.values.items ≡ []) × (memory.home ≡ None)) }
         ensures by { IfOk result (λ memory. (memory.engine ≡ engine) × (memory.threads ≡ threads)) }
         ensures range { OnOk result ((1 ≤ threads) × (threads ≤ 63)) }
+        ensures refused { result ≡ Err Range ↔ ((threads ≡ 0) ⊎ (63 < threads)) }
         ensures fails { IfErr result (λ why. why ≡ Range) }
     {
         if threads == 0 || threads > MOST_THREADS {
@@ -54,7 +58,11 @@ impl Memory {
     /// A new cell. No thread may have a part then.
     pub fn cell(&mut self, value: Val) -> Result<u32, Code>
         ensures made { IfOk result (Grows ⟦<AnyLaw as Law>⟧.holds self.old self.new value) }
+        ensures full { result ≡ Err Full → length self.new.values.items ≡ 524288 }
+        ensures why { IfErr result (λ why. IsWithheld why ⊎ (why ≡ Full)) }
         ensures home { OnOk result (self.new.home ≡ None) }
+        ensures kept { IfErr result (λ why. KeepsCells ⟦<AnyLaw as Law>⟧.holds self.old self.new) }
+        ensures terms { KeepsTerms self.old self.new }
         ensures fails { IfErr result (λ why. why ≢ Done) }
     {
         self.settle()?;
@@ -73,6 +81,11 @@ impl Memory {
         ensures settled { OnOk result (HasSettled ⟦<AnyLaw as Law>⟧.holds self.old self.new.values.items) }
         ensures exists { OnOk result (cell < length self.new.values.items) }
         ensures value { IfOk result (λ value. value ≡ value_at self.new.values.items cell) }
+        ensures foreign { result ≡ Err Foreign → length self.new.values.items ≤ cell }
+        ensures why { IfErr result (λ why. IsWithheld why ⊎ (why ≡ Foreign)) }
+        ensures home { OnOk result (self.new.home ≡ None) }
+        ensures kept { IfErr result (λ why. KeepsCells ⟦<AnyLaw as Law>⟧.holds self.old self.new) }
+        ensures terms { KeepsTerms self.old self.new }
         ensures fails { IfErr result (λ why. why ≢ Done) }
     {
         self.settle()?;
@@ -86,6 +99,9 @@ impl Memory {
     /// once, there is a new table.
     pub fn thread(&mut self) -> Result<Thread, Code>
         ensures gives { IfOk result (GivesPart ⟦<AnyLaw as Law>⟧.holds self.old) }
+        ensures leaves { IfOk result (Gives ⟦<AnyLaw as Law>⟧.holds self.old self.new) }
+        ensures kept { IfErr result (λ why. KeepsCells ⟦<AnyLaw as Law>⟧.holds self.old self.new) }
+        ensures terms { KeepsTerms self.old self.new }
         ensures idle { IfOk result (λ part. part.begun ≡ false) }
         ensures fails { IfErr result (λ why. why ≢ Done) }
     {
@@ -106,6 +122,8 @@ impl Memory {
         ensures settled { OnOk result (HasSettled ⟦<AnyLaw as Law>⟧.holds self.old self.new.values.items) }
         ensures home { OnOk result (self.new.home ≡ None) }
         ensures kept { IfErr result (λ why. self.new.values.items ≡ self.old.values.items) }
+        ensures stays { IfErr result (λ why. StaysOut self.old self.new) }
+        ensures withheld { IfErr result IsWithheld }
         ensures fails { IfErr result (λ why. why ≢ Done) }
         ensures same { (self.new.engine ≡ self.old.engine) × (self.new.threads ≡ self.old.threads) }
     {
@@ -129,6 +147,11 @@ impl Memory {
         ensures fails { IfErr result (λ why. why ≢ Done) }
         ensures same { (values : List Val) → HasSettled ⟦<AnyLaw as Law>⟧.holds self.new values
             → HasSettled ⟦<AnyLaw as Law>⟧.holds self.old values }
+        ensures values { self.new.values.items ≡ self.old.values.items }
+        ensures at { IfOk result (λ part. IsAt self.new.home (home_of part.attempts.caller)) }
+        ensures home { OnOk result (GivesAtHome self.old.home self.new.home) }
+        ensures kept { IfErr result (λ why. self.new.home ≡ self.old.home) }
+        ensures terms { KeepsTerms self.old self.new }
     {
         match &mut self.home {
             None => Err(Code::Full),
@@ -150,6 +173,11 @@ impl Memory {
     // A part of a new table.
     fn begun(&mut self) -> Result<Thread, Code>
         ensures starts { IfOk result (λ part. StartsWith self.old.values.items (home_of part.attempts.caller)) }
+        ensures works { IfOk result (λ part. WorksBy self.old.engine (home_of part.attempts.caller)) }
+        ensures at { IfOk result (λ part. IsAt self.new.home (home_of part.attempts.caller)) }
+        ensures values { self.new.values.items ≡ self.old.values.items }
+        ensures kept { IfErr result (λ why. self.new.home ≡ self.old.home) }
+        ensures terms { KeepsTerms self.old self.new }
         ensures idle { IfOk result (λ part. part.begun ≡ false) }
         ensures fails { IfErr result (λ why. why ≢ Done) }
     {
@@ -162,6 +190,7 @@ impl Memory {
     // A table that has the values of the cells.
     fn found(&self) -> Result<Home, Code>
         ensures starts { IfOk result (λ home. StartsWith self.now.values.items (table_at home)) }
+        ensures works { IfOk result (λ home. WorksBy self.now.engine (table_at home)) }
         ensures fails { IfErr result (λ why. why ≢ Done) }
     {
         let Ok(start) = Vec::from_slice(self.alloc, &self.values) else {
@@ -198,6 +227,7 @@ impl Home {
     fn part(&mut self, alloc: Global, seed: u64) -> Result<Thread, Code>
         ensures table { table_at self.new ≡ table_at self.old }
         ensures own { self.new.last ≡ self.old.last }
+        ensures same { IfErr result (λ why. self.new ≡ self.old) }
         ensures part { IfOk result (λ part. home_of part.attempts.caller ≡ table_at self.old) }
         ensures idle { IfOk result (λ part. part.begun ≡ false) }
         ensures fails { IfErr result (λ why. why ≢ Done) }
@@ -219,10 +249,13 @@ impl Home {
     fn values(&mut self, alloc: Global, cells: u32) -> Result<Vec<Val>, Code>
         requires all { cells ≡ objects_there (table_at self.old) }
         ensures table { table_at self.new ≡ table_at self.old }
+        ensures founder { self.new.founder ≡ self.old.founder }
+        ensures nothing { IfErr result (λ why. AddsNothing
+            self.old.last.attempts.caller self.new.last.attempts.caller) }
         ensures size { IfOk result (λ values. length values.items ≡ cells) }
         ensures reads { IfOk result (λ values.
             ReadsAll ⟦<AnyLaw as Law>⟧.holds self.old.last.attempts.caller values.items) }
-        ensures fails { IfErr result (λ why. why ≢ Done) }
+        ensures fails { IfErr result (λ why. IsWithheld why) }
     {
         for _reading in 0..READINGS {
             let _code = self.last.abort();
@@ -248,13 +281,14 @@ fn callers_by(engine: Engine, threads: u32) -> u32
 
 // The values of so many cells, by one attempt.
 fn reading(alloc: Global, last: &mut Thread, cells: u32) -> Result<Vec<Val>, Code>
+    requires idle { last.old.begun ≡ false }
     requires all { cells ≡ objects_of last.old.attempts.caller }
     ensures home { home_of last.new.attempts.caller ≡ home_of last.old.attempts.caller }
     ensures size { IfOk result (λ values. length values.items ≡ cells) }
     ensures reads { IfOk result (λ values. (k : Caller AnyLawValue) → AddsNothing k last.old.attempts.caller
         → ReadsAll ⟦<AnyLaw as Law>⟧.holds k values.items) }
     ensures nothing { IfErr result (λ why. AddsNothing last.old.attempts.caller last.new.attempts.caller) }
-    ensures fails { IfErr result (λ why. why ≢ Done) }
+    ensures fails { IfErr result (λ why. (why ≡ Again) ⊎ (why ≡ code.Memory) ⊎ (why ≡ Spent)) }
 {
     match last.begin() {
         Code::Done => {}
@@ -271,12 +305,14 @@ fn reading(alloc: Global, last: &mut Thread, cells: u32) -> Result<Vec<Val>, Cod
 fn all(alloc: Global, last: &mut Thread, cells: u32) -> Result<Vec<Val>, Code>
     requires all { cells ≡ objects_of last.old.attempts.caller }
     requires untouched { IsUntouched last.old.attempts.caller }
+    requires may { MayCall last.old }
     ensures keeps { Keeps last.old.attempts.caller last.new.attempts.caller }
     ensures size { IfOk result (λ values. length values.items ≡ cells) }
     ensures reads { IfOk result (λ values. (map : List Val) → MayBegin ⟦<AnyLaw as Law>⟧.holds
         last.new.attempts.caller map → map ≡ values.items) }
     ensures untouched { OnOk result (IsUntouched last.new.attempts.caller) }
-    ensures fails { IfErr result (λ why. why ≢ Done) }
+    ensures may { MayCall last.new }
+    ensures fails { IfErr result (λ why. (why ≡ Again) ⊎ (why ≡ code.Memory)) }
 {
     let Ok(mut values) = Vec::with_capacity(alloc, cells as usize) else {
         return Err(Code::Memory);

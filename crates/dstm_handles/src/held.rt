@@ -1,11 +1,14 @@
 // What a handle stands for.
-ghost use Rattle.std.specs.Prelude.{◌≡◌, ◌≢◌, true, IfErr, IfOk};
-ghost use Rattle.dstm_attempts.specs.Attempts.{AddsNothing, Begins, Exchanges, Finds, SetsNothing, TakesEffect};
-ghost use Rattle.dstm_handles.specs.Held.{IfPart, IsIdle, OfMemory, OfPart};
-ghost use Rattle.dstm_handles.specs.Memories.{GivesPart, Grows, HasSettled};
-ghost use Rattle.dstm_handles.specs.Threads.{starting};
-ghost use Rattle.dstm_handles.specs.declared.code.Code.TheVariants.{Done};
+ghost use Rattle.std.specs.Prelude.{◌≡◌, ◌≢◌, ◌≤◌, List, length, false, true, Err, IfErr, IfOk, Ok, OnOk};
+ghost use Rattle.dstm_attempts.specs.Attempts.{AddsNothing, Begins, Exchanges, Finds, IsAbandoned, MayBegin, Opens, SetsNothing, StoodTogether, TakesEffect};
+ghost use Rattle.dstm_handles.specs.Held.{IfMemory, IfPart, IsIdle, IsMemory, IsPart, OfMemory, OfPart};
+ghost use Rattle.dstm_handles.specs.Memories.{Gives, GivesPart, Grows, HasSettled, KeepsCells, KeepsTerms};
+ghost use Rattle.dstm_handles.specs.Threads.{BeginsOr, GivesUp, GoesOn, Marks, StopsChange, StopsCommit, StopsLook, starting};
+ghost use Rattle.dstm_handles.specs.Undoing.{UndoesTo};
+ghost use Rattle.dstm_handles.specs.Waiting.{Looks};
+ghost use Rattle.dstm_handles.specs.declared.code.Code.TheVariants.{Closed, Done, Foreign, Full};
 ghost use Rattle.dstm_model.specs.Map.{value_at};
+ghost use Rattle.dstm_model.specs.declared.value.Val.{Val};
 
 use crate::code::Code;
 use crate::memory::Memory;
@@ -36,6 +39,10 @@ impl Held {
     pub fn cell(&mut self, value: Val) -> Result<u32, Code>
         ensures made { IfOk result (λ cell. OfMemory (λ old new. Grows ⟦<AnyLaw as Law>⟧.holds old new value cell)
             self.old self.new) }
+        ensures full { result ≡ Err Full → OfMemory (λ old new. length new.values.items ≡ 524288) self.old self.new }
+        ensures kept { IfErr result (λ why. IfMemory (KeepsCells ⟦<AnyLaw as Law>⟧.holds) self.old self.new) }
+        ensures terms { IfMemory KeepsTerms self.old self.new }
+        ensures closed { IsPart self.old → result ≡ Err Closed }
         ensures fails { IfErr result (λ why. why ≢ Done) }
     {
         match self {
@@ -48,6 +55,11 @@ impl Held {
     pub fn peek(&mut self, cell: u32) -> Result<Val, Code>
         ensures value { IfOk result (λ value. OfMemory (λ old new. HasSettled ⟦<AnyLaw as Law>⟧.holds old
             new.values.items × (value ≡ value_at new.values.items cell)) self.old self.new) }
+        ensures foreign { result ≡ Err Foreign → OfMemory (λ old new. length new.values.items ≤ cell)
+            self.old self.new }
+        ensures kept { IfErr result (λ why. IfMemory (KeepsCells ⟦<AnyLaw as Law>⟧.holds) self.old self.new) }
+        ensures terms { IfMemory KeepsTerms self.old self.new }
+        ensures closed { IsPart self.old → result ≡ Err Closed }
         ensures fails { IfErr result (λ why. why ≢ Done) }
     {
         match self {
@@ -60,6 +72,11 @@ impl Held {
     pub fn part(&mut self) -> Result<Thread, Code>
         ensures gives { IfOk result (λ part. OfMemory (λ old new. GivesPart ⟦<AnyLaw as Law>⟧.holds old part)
             self.old self.new) }
+        ensures leaves { IfOk result (λ part. OfMemory (λ old new. Gives ⟦<AnyLaw as Law>⟧.holds old new part)
+            self.old self.new) }
+        ensures kept { IfErr result (λ why. IfMemory (KeepsCells ⟦<AnyLaw as Law>⟧.holds) self.old self.new) }
+        ensures terms { IfMemory KeepsTerms self.old self.new }
+        ensures closed { IsPart self.old → result ≡ Err Closed }
         ensures fails { IfErr result (λ why. why ≢ Done) }
     {
         match self {
@@ -74,6 +91,8 @@ impl Held {
         ensures begins { result ≡ Done → OfPart (λ old new. Begins ⟦<AnyLaw as Law>⟧.holds (starting old)
             new.attempts.caller) self.old self.new }
         ensures nothing { IfPart (λ old new. AddsNothing old.attempts.caller new.attempts.caller) self.old self.new }
+        ensures tells { IfPart (λ old new. BeginsOr old new result) self.old self.new }
+        ensures closed { IsMemory self.old → result ≡ Closed }
     {
         match self {
             Held::Memory(_) => Code::Closed,
@@ -91,6 +110,16 @@ impl Held {
             (λ old new. SetsNothing ⟦<AnyLaw as Law>⟧.holds old.attempts.caller new.attempts.caller)
             self.old self.new) }
         ensures fails { IfErr result (λ why. why ≢ Done) }
+        ensures may { OnOk result (OfPart (λ old new.
+            (map : List Val) × MayBegin ⟦<AnyLaw as Law>⟧.holds new.attempts.caller map) self.old self.new) }
+        ensures once { OnOk result (OfPart (λ old new.
+            Opens ⟦<AnyLaw as Law>⟧.holds false cell old.attempts.caller new.attempts.caller) self.old self.new) }
+        ensures together { OnOk result (OfPart (λ old new.
+            StoodTogether ⟦<AnyLaw as Law>⟧.holds new.attempts.caller) self.old self.new) }
+        ensures stops { IfErr result (λ why. IfPart (λ old new. StopsLook ⟦<AnyLaw as Law>⟧.holds cell old new why)
+            self.old self.new) }
+        ensures goes_on { IfPart GoesOn self.old self.new }
+        ensures closed { IsMemory self.old → result ≡ Err Closed }
     {
         match self {
             Held::Memory(_) => Err(Code::Closed),
@@ -108,6 +137,16 @@ impl Held {
             (λ old new. SetsNothing ⟦<AnyLaw as Law>⟧.holds old.attempts.caller new.attempts.caller)
             self.old self.new) }
         ensures fails { IfErr result (λ why. why ≢ Done) }
+        ensures may { OnOk result (OfPart (λ old new.
+            (map : List Val) × MayBegin ⟦<AnyLaw as Law>⟧.holds new.attempts.caller map) self.old self.new) }
+        ensures once { OnOk result (OfPart (λ old new.
+            Opens ⟦<AnyLaw as Law>⟧.holds true cell old.attempts.caller new.attempts.caller) self.old self.new) }
+        ensures together { OnOk result (OfPart (λ old new.
+            StoodTogether ⟦<AnyLaw as Law>⟧.holds new.attempts.caller) self.old self.new) }
+        ensures stops { IfErr result (λ why. IfPart (λ old new. StopsChange ⟦<AnyLaw as Law>⟧.holds cell old new why)
+            self.old self.new) }
+        ensures goes_on { IfPart GoesOn self.old self.new }
+        ensures closed { IsMemory self.old → result ≡ Err Closed }
     {
         match self {
             Held::Memory(_) => Err(Code::Closed),
@@ -122,6 +161,10 @@ impl Held {
             (λ old new. TakesEffect ⟦<AnyLaw as Law>⟧.holds old.attempts.caller new.attempts.caller) self.old self.new }
         ensures nothing { result ≢ Done → IfPart
             (λ old new. AddsNothing old.attempts.caller new.attempts.caller) self.old self.new }
+        ensures stops { result ≢ Done → IfPart (λ old new. StopsCommit ⟦<AnyLaw as Law>⟧.holds old new result)
+            self.old self.new }
+        ensures goes_on { result ≢ Done → IfPart GoesOn self.old self.new }
+        ensures closed { IsMemory self.old → result ≡ Closed }
     {
         match self {
             Held::Memory(_) => Code::Closed,
@@ -134,6 +177,10 @@ impl Held {
     pub fn abort(&mut self) -> Code
         ensures nothing { IfPart (λ old new. AddsNothing old.attempts.caller new.attempts.caller) self.old self.new }
         ensures idle { IsIdle self.new }
+        ensures tells { IfPart (λ old new. GivesUp old new result) self.old self.new }
+        ensures closed { IsMemory self.old → result ≡ Closed }
+        ensures leaves { IfPart (λ old new. old.begun ≡ true
+            → IsAbandoned ⟦<AnyLaw as Law>⟧.holds old.attempts.caller new.attempts.caller) self.old self.new }
     {
         match self {
             Held::Memory(_) => Code::Closed,
@@ -144,6 +191,8 @@ impl Held {
     /// `Thread::look`.
     pub fn look(&mut self) -> Code
         ensures nothing { IfPart (λ old new. AddsNothing old.attempts.caller new.attempts.caller) self.old self.new }
+        ensures looks { IfPart (λ old new. Looks old new result) self.old self.new }
+        ensures closed { IsMemory self.old → result ≡ Closed }
     {
         match self {
             Held::Memory(_) => Code::Closed,
@@ -154,6 +203,9 @@ impl Held {
     /// `Thread::mark`.
     pub fn mark(&mut self) -> Result<u64, Code>
         ensures fails { IfErr result (λ why. why ≢ Done) }
+        ensures marks { IfOk result (λ mark. OfPart (λ old new. Marks old new (Ok mark)) self.old self.new) }
+        ensures stops { IfErr result (λ why. IfPart (λ old new. Marks old new (Err why)) self.old self.new) }
+        ensures closed { IsMemory self.old → result ≡ Err Closed }
     {
         match self {
             Held::Memory(_) => Err(Code::Closed),
@@ -162,7 +214,10 @@ impl Held {
     }
 
     /// `Thread::undo_to`.
-    pub fn undo_to(&mut self, mark: u64) -> Code {
+    pub fn undo_to(&mut self, mark: u64) -> Code
+        ensures undoes { IfPart (λ old new. UndoesTo ⟦<AnyLaw as Law>⟧.holds mark old new result) self.old self.new }
+        ensures closed { IsMemory self.old → result ≡ Closed }
+    {
         match self {
             Held::Memory(_) => Code::Closed,
             Held::Thread(thread) => thread.undo_to(mark),

@@ -3,7 +3,8 @@ use Rattle.dstm_attempts.specs.Attempts.{AddsNothing}
 use Rattle.dstm_handles.specs.Memories.{table_at}
 use Rattle.dstm_handles.proofs.memory.Home.values.Given as goal
 
--- it is the same table, and the memory's own part has committed nothing more
+-- it is the same table and founder, and the memory's own part has committed nothing more
 abbrev pub invariant-loop-reading : goal.invariant-loop-reading
 invariant-loop-reading l =
     AddsNothing l.fn.self.last.attempts.caller l.self.last.attempts.caller × (table_at l.self ≡ table_at l.fn.self)
+    × (l.self.founder ≡ l.fn.self.founder)

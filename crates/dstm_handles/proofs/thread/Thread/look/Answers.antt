@@ -1,4 +1,4 @@
-use Rattle.std.proofs.Common.{◌∙◌, List, Ok, ap, inr, subst}
+use Rattle.std.proofs.Common.{◌∙◌, List, Ok, ap, inl, inr, subst}
 use Rattle.dstm_model.specs.declared.value.Val.{Val}
 use Rattle.dstm_model.specs.declared.value.AnyLaw.{AnyLaw}
 use Rattle.dstm_attempts.specs.Attempts.{LooksChanged, LooksSame}
@@ -12,6 +12,7 @@ returns-in-Ok-Same-clause-same c h = record {
   lets_go = c.let_go.ensures.same (c.in-Ok-Same.is ∙ ap Ok c.in-Ok-Same.field-0-is);
   looks = subst (λ since. LooksSame since c.let_go.new.self.attempts.caller c.look_on.new.self.attempts.caller)
       c.let_go.ensures.since (c.look_on.ensures.same h);
+  once = c.look_on.ensures.once (inl h);
 }
 
 pub returns-in-Ok-Same-clause-changed : goal.returns-in-Ok-Same-clause-changed
@@ -20,6 +21,7 @@ returns-in-Ok-Same-clause-changed c h = inr (record {
   lets_go = c.let_go.ensures.same (c.in-Ok-Same.is ∙ ap Ok c.in-Ok-Same.field-0-is);
   looks = subst (λ since. LooksChanged (λ (law : AnyLaw) (map : List Val). Unit {0}) since c.let_go.new.self.attempts.caller
       c.look_on.new.self.attempts.caller) c.let_go.ensures.since (c.look_on.ensures.changed h);
+  once = c.look_on.ensures.once (inr h);
 })
 
 pub returns-in-Ok-Same-clause-spent : goal.returns-in-Ok-Same-clause-spent

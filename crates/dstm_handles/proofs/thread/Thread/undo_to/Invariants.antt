@@ -1,4 +1,4 @@
-use Rattle.std.proofs.Common.{◌≡◌, ◌++◌, List, length, vec_len}
+use Rattle.std.proofs.Common.{◌≡◌, ◌++◌, All, Contains, List, length, vec_len}
 use Rattle.dstm_model.specs.contracts.value.AnyLawLaw.TheImpl as TheLaw
 use Rattle.dstm_handles.specs.Threads.{GoesOn}
 use Rattle.dstm_handles.specs.Undoing.{Undoes}
@@ -9,6 +9,7 @@ use Rattle.dstm_handles.proofs.thread.Thread.undo_to.Given as goal
 abbrev pub invariant-loop-self : goal.invariant-loop-self
 invariant-loop-self l = record {
   goes_on : GoesOn l.fn.self l.self;
+  among : All (Contains l.fn.self.undos.items) l.self.undos.items;
   undoes : (first added : List Undo) → l.fn.self.undos.items ≡ first ++ added → length first ≡ l.mark →
       (left : List Undo) × Undoes (TheLaw.holds-value).it first added left l.fn.self l.self;
 }
