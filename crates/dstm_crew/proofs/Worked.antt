@@ -262,13 +262,13 @@ module _ (workload : Workload) (options : Options) (old new : Worker) (unbegun :
   abbrev next : Option Job
   next = next_job workload.jobs new.places.items new.done.items
 
-  -- an attempt was not wasted, or it stood at the job that is next
+  -- an attempt was not wasted, or it is the last one and stood at the job that is next
   abbrev HadCause : ℕ → Type 0
   HadCause i =
       (HasCommitted (round_of new.caller) (number_of new.caller) i × HasFewSights 0 (round_of new.caller) (number_of new.caller) i)
       ⊎ ((WasDisturbed (round_of new.caller) (number_of new.caller) i
       × HasFewSights (rechecks_in workload.version) (round_of new.caller) (number_of new.caller) i)
-      ⊎ Waited workload next (round_of new.caller) (number_of new.caller) i)
+      ⊎ ((i ≡ begun new.caller) × Waited workload next (round_of new.caller) (number_of new.caller) i))
 
   not_wasted : (i : ℕ) → WasNotWasted (rechecks_by style 1024) new.caller i → HadCause i
   not_wasted i (inl committed) = inl committed
@@ -365,7 +365,7 @@ module _ (workload : Workload) (options : Options) (old new : Worker) (unbegun :
       by : (i : ℕ) → 0 < i → i ≤ (begun new.caller) →
           (i ≡ (begun new.caller)) ⊎ (i ≡ (begun new.caller) → ⊥) → HadCause i
       by i some few (inl last) =
-          inr (inr (subst (Waited workload next (round_of new.caller) (number_of new.caller)) (sym last) waited))
+          inr (inr (last, subst (Waited workload next (round_of new.caller) (number_of new.caller)) (sym last) waited))
       by i some few (inr other) =
           not_wasted i (then_none style was.last stands.on was.on stands.none_wasted
           (same_since release n was.last was.none_wasted) i

@@ -25,7 +25,7 @@ use Rattle.dstm_progress.specs.Ends.{StaysAt, ended_as}
 use Rattle.dstm_core.specs.Words.{code_of}
 use Rattle.dstm_core.specs.declared.status.Status.TheVariants as status
 use Rattle.dstm_progress.specs.Disturbed.{count_of}
-use Rattle.dstm_mem.specs.Memory.{with_set}
+use Rattle.dstm_mem.specs.Memory.{value_in, with_set}
 use Rattle.dstm_mem.proofs.Pairs.{AgreesWith-of_agrees}
 use Rattle.dstm_order.specs.declared.again.Again.{Again}
 use Rattle.dstm_order.specs.Calls.{IsCall, Obeys, state_after}
@@ -404,8 +404,8 @@ pub stood_at : (rechecks : ℕ) (layout : Layout) (job : Job) (k b t u n : Calle
     begun_log u.number u.log ≡ begun_log b.number b.log → ((shape_of k).all_write ≡ false → (o : ℕ) → is_opened u o ≡ false) →
     ((map : List Val) → Admits keeps t map →
     IsRight (record { layout = layout; ops = job.ops }) map (with_set map (written t)) Blocked) →
-    StoodAt Branches rechecks layout job (Dstm k) (Dstm n)
-stood_at rechecks layout job k b t u n some few one same law size rechecked left begins home number log unopened right = record {
+    KeepsOutOf layout job.ops (held t) (is_opened t) → StoodAt Branches rechecks layout job (Dstm k) (Dstm n)
+stood_at rechecks layout job k b t u n some few one same law size rechecked left begins home number log none right out = record {
   branches = refl;
   made = one;
   given_up = record {
@@ -420,7 +420,8 @@ stood_at rechecks layout job k b t u n some few one same law size rechecked left
   uncommitted = not_committed n one.on.rest stays;
   aborted = was_aborted n one.on.rest stays;
   blocked = λ map held stands agrees. (right map (admitted map held stands agrees)).blocked refl held stands;
-  unused = λ reads. unused_by k b u n begins home number log (unopened reads) left;
+  inside = λ o foreign. ap (λ (values : List (ℕ × Val)). value_in values o) covers ∙ rechecked.held o ∙ (out o foreign).0;
+  unused = λ reads. unused_by k b u n begins home number log (none reads) left;
   same_done = same;
 }
   where

@@ -13,7 +13,7 @@ use Rattle.dstm_workload.specs.declared.workload.Job.{Job}
 use Rattle.dstm_compose.specs.declared.body.Outcome.TheVariants.{Blocked}
 use Rattle.dstm_compose.specs.Compose.{IsRight}
 use Rattle.dstm_jobs.specs.declared.style.Style.TheVariants.{Branches}
-use Rattle.dstm_mem.specs.Memory.{with_set}
+use Rattle.dstm_mem.specs.Memory.{value_in, with_set}
 use Rattle.dstm_mem.proofs.Pairs.{AgreesWith-of_agrees}
 use Rattle.dstm_machines.specs.Traces.{IsPastOf}
 use Rattle.dstm_machines.proofs.Attempts.{log_parts}
@@ -29,7 +29,7 @@ use Rattle.dstm_tl2_order.proofs.Draws.{undrawn_none}
 use Rattle.dstm_tl2_order.proofs.Ones.{one_weaker}
 use Rattle.dstm_tl2_order.proofs.WasRead.{reads_so_far}
 use Rattle.dstm_tl2_engine.specs.Attempts.{Admits}
-use Rattle.dstm_tl2_engine.specs.Callers.{TlCalled, begun_log, law_of, since_sample, state, table_of_caller, written}
+use Rattle.dstm_tl2_engine.specs.Callers.{TlCalled, begun_log, law_of, since_sample, state, table_of_caller, held, is_opened, written}
 use Rattle.dstm_tl2_engine.specs.Transactions.{BeginsAnew, TxPlace, tx_place}
 use Rattle.dstm_tl2_engine.specs.Calls.{IsTold}
 use Rattle.dstm_tl2_engine.proofs.Begun.{begun_count}
@@ -41,6 +41,7 @@ use Rattle.dstm_tables.specs.declared.tables.Caller.TheVariants.{Tl2}
 use Rattle.dstm_jobs.specs.Tables.{AtRest, OneMore}
 use Rattle.dstm_jobs.specs.Jobs.{StoodAt}
 use Rattle.dstm_jobs.specs.Law.{keeps}
+use Rattle.dstm_jobs.proofs.Inside.{KeepsOutOf}
 use Rattle.dstm_tables.proofs.ByTl2.{tl2_on}
 
 -- ---- an attempt that is given up
@@ -85,8 +86,8 @@ module _ (k b t : TlCalled StoreLaw) (r q : GName) (h j : Home StoreLaw) (begins
   pub stood_at : (rechecks : ℕ) (layout : Layout) (job : Job) → (law_of k).layout ≡ layout →
       ((map : List Val) → Admits keeps t map →
       IsRight (record { layout = layout; ops = job.ops }) map (with_set map (written t)) Blocked) →
-      StoodAt Branches rechecks layout job (Tl2 k) (Tl2 t)
-  stood_at rechecks layout job law right = record {
+      KeepsOutOf layout job.ops (held t) (is_opened t) → StoodAt Branches rechecks layout job (Tl2 k) (Tl2 t)
+  stood_at rechecks layout job law right out = record {
     branches = refl;
     made = one_more;
     given_up = undrawn;
@@ -96,6 +97,8 @@ module _ (k b t : TlCalled StoreLaw) (r q : GName) (h j : Home StoreLaw) (begins
         let none = undrawn in cc);
     aborted = tt;
     blocked = λ map held stands agrees. (right map (admitted map held stands agrees)).blocked refl held stands;
+    inside = λ o foreign.
+        ap (λ (values : List (ℕ × Val)). value_in values o) (reads_so_far (table_of_caller t) t.log t.number begun) ∙ (out o foreign).0;
     unused = λ reads. refl;
     same_done = made.same_done keeps k b t r q h j begins place;
   }

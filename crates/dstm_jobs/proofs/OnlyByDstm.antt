@@ -6,7 +6,8 @@ use Rattle.dstm_opacity.specs.Committed.{Committed, by_caller, committed, commit
 use Rattle.dstm_opacity.proofs.Stays.{entries_are_history}
 use Rattle.dstm_opacity.proofs.Told.{each_is_told}
 use Rattle.dstm_progress.specs.Disturbed.{count_of}
-use Rattle.dstm_engine.specs.Attempts.{completes_pass, is_look_self}
+use Rattle.dstm_engine.specs.Attempts.{SightAt, completes_pass, is_look_self}
+use Rattle.dstm_engine.proofs.Rechecking.{in_later}
 use Rattle.dstm_core.specs.declared.event.Kind.{Kind}
 use Rattle.dstm_core.specs.declared.event.Kind.TheVariants.{LookSelf}
 use Rattle.dstm_model.specs.declared.value.Val.{Val}
@@ -140,29 +141,15 @@ only_history s start run core one = rw (entries_are_history s start run, only_do
 
 -- ---- the newest sight of an attempt
 
-pub record NewestSight (s : Shape) (start : List Val) (run log : List Event) (c i : ℕ) : Type 0 where
-  pub later : List Event
-  pub sight : Event
-  pub before : List Event
-  pub is : log ≡ later ++ sight ∷ before
-  pub is_one : IsSight s before sight
-  pub caller : sight.caller ≡ c
-  pub attempt : (local s before c).begun ≡ i
-  pub values : seen_last s start run log c i ≡ seen s start run before c
+pub record NewestSight (s : Shape) (start : List Val) (run events : List Event) (c i : ℕ) : Type 0 where
+  pub place : SightAt s events c i
+  pub open place use *
+  pub values : seen_last s start run events c i ≡ seen s start run before c
 
 -- an event before the newest sight
 past_sight : {s : Shape} {start : List Val} {run es : List Event} {e : Event} {c i : ℕ} → NewestSight s start run es c i →
     seen_last s start run (e ∷ es) c i ≡ seen_last s start run es c i → NewestSight s start run (e ∷ es) c i
-past_sight {e = e} n same = record {
-  later = e ∷ n.later;
-  sight = n.sight;
-  before = n.before;
-  is = ap (λ (l : List Event). e ∷ l) n.is;
-  is_one = n.is_one;
-  caller = n.caller;
-  attempt = n.attempt;
-  values = same ∙ n.values;
-}
+past_sight {e = e} n same = record { place = in_later (e ∷ []) refl refl n.place; values = same ∙ n.values }
 
 completes : (k : Kind) (b : Bool) → is_look_self k && b ≡ true → (k ≡ LookSelf) × (b ≡ true)
 completes LookSelf true is = (refl, refl)
@@ -174,16 +161,18 @@ at_sight : (s : Shape) (start : List Val) (run es : List Event) (e : Event) (c i
     seen_last s start run (e ∷ es) c i ≡ seen s start run es c → NewestSight s start run (e ∷ es) c i
 at_sight s start run es e c i own attempt is values =
     let found = completes e.kind (e.found == given (local s es c).phase) is in record {
-      later = [];
-      sight = e;
-      before = es;
-      is = refl;
-      is_one = record {
-        kind = found.0;
-        found = rw (eqb-true e.found (given (local s es c).phase) found.1, ← own) refl;
+      place = record {
+        later = [];
+        sight = e;
+        before = es;
+        log = refl;
+        is_one = record {
+          kind = found.0;
+          found = rw (eqb-true e.found (given (local s es c).phase) found.1, ← own) refl;
+        };
+        caller = own;
+        attempt = attempt;
       };
-      caller = own;
-      attempt = attempt;
       values = values;
     }
 
@@ -225,6 +214,6 @@ only_blocked layout s start run i job store core one some none blocked stands =
     let map = state_after start (history_of s start run) in
     let there = only_values s start run core.core one in
     let agrees : Agrees map (seen_last s start run run 0 i) = subst (Agrees map) (sym n.values)
-    (only_agrees s start (IsLawful layout) run n.later n.before n.sight i core n.is one n.is_one
+    (only_agrees s start (IsLawful layout) run n.later n.before n.sight i core n.log one n.is_one
     (omega (arith, n.attempt)) none) in
     blocked map store (subst (λ (m : List Val). StandsFor layout m store) (sym there) stands) agrees

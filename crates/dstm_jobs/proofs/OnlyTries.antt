@@ -52,6 +52,7 @@ stood_alone style layout job k n one was = record {
   aborted = was.aborted;
   same_done = was.same_done;
   blocked = λ store stands. was.blocked _ store stands agrees;
+  inside = was.inside;
   unused = λ reads. refl;
 }
   where

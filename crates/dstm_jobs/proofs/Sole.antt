@@ -52,6 +52,7 @@ stood_alone style layout job k n one law was = record {
       (at_zero (λ c. IsBlockedWith layout (seen_last s (start_of n) n.log n.log c (state n).begun) (Some job)) was.blocked)
       (at_zero (λ c. StandsFor layout (state_after (start_of n) (entries_of (reverse (done_by s (start_of n) n.log n.log c)))) store)
       stands);
+  inside = was.inside;
   unused = was.unused;
 }
   where

@@ -22,6 +22,10 @@ StaysOut layout ops entry =
     (o : ℕ) → IsForeign (record { layout = layout; ops = ops }) o →
     (value_in entry.reads o ≡ None) × (value_in entry.writes o ≡ None)
 
+-- none of these values is of an object that is foreign to the job
+abbrev pub AreOfJob : Layout → List Op → List (ℕ × Val) → Type 0
+AreOfJob layout ops values = (o : ℕ) → IsForeign (record { layout = layout; ops = ops }) o → value_in values o ≡ None
+
 -- On every lawful map on which the transaction could have run, the replies are the job's, and what the transaction
 -- leaves stands for the store that the job leaves. It has to do with the job's objects alone.
 pub record IsAnsweredBy (layout : Layout) (ops : List Op) (replies : List Reply) (entry : Entry) : Type 0 where
@@ -45,3 +49,7 @@ abbrev pub IsBlockedWith : Layout → List (ℕ × Val) → Option Job → Type 
 IsBlockedWith layout values job =
     IsSomeAnd job (λ j. (map : List Val) (held : Store) → StandsFor layout map held → Agrees map values →
     apply_job j.ops held ≡ None)
+
+-- there is a job, and none of these values is of an object that is foreign to it
+abbrev pub AreOfSome : Layout → List (ℕ × Val) → Option Job → Type 0
+AreOfSome layout values job = IsSomeAnd job (λ j. AreOfJob layout j.ops values)

@@ -4,7 +4,7 @@ use Rattle.dstm_model.specs.Answers.{Committed}
 use Rattle.dstm_model.specs.declared.layout.Layout.{Layout}
 use Rattle.dstm_workload.specs.declared.workload.Job.{Job}
 use Rattle.dstm_workload.specs.declared.workload.Workload.{Workload}
-use Rattle.dstm_jobs.specs.Answers.{IsBlockedWith, IsDone, KeepsFew}
+use Rattle.dstm_jobs.specs.Answers.{AreOfJob, AreOfSome, IsBlockedWith, IsDone, KeepsFew}
 use Rattle.dstm_jobs.specs.declared.style.Style.{Style}
 use Rattle.dstm_jobs.specs.declared.style.Style.TheVariants.{Branches, Loose}
 use Rattle.dstm_jobs.specs.declared.trying.Finished.{Finished}
@@ -19,10 +19,12 @@ use Rattle.dstm_tables.specs.Tells.{HasCommitted, HasFewSights, IsSpent, WasAbor
 
 -- ---- attempts at the job that is next
 
--- it stood at a blocked job: it was given up, and the job is blocked on every lawful map that agrees with what it has read
+-- it stood at a blocked job: it was given up, and the job is blocked on every lawful map that agrees with what it has read,
+-- which is of the job's objects alone
 pub record StoodBlocked (layout : Layout) (round : Round) (c i : ℕ) (job : Option Job) : Type 0 where
   pub given_up : WasGivenUpAfter 1024 round c i
   pub blocked : IsBlockedWith layout (seen_of round c i) job
+  pub inside : AreOfSome layout (seen_of round c i) job
 
 -- in version 3 an attempt may have stood at this job
 pub record Waited (workload : Workload) (job : Option Job) (round : Round) (c i : ℕ) : Type 0 where
@@ -34,12 +36,13 @@ abbrev pub rechecks_in : (version : ℕ) → ℕ
 rechecks_in version = if version == 3 then 1024 else 0
 
 -- each attempt of the caller committed, made sure of by its opens and its commit alone; or was disturbed, and made sure of so many
--- times more at most; or stood at the job
+-- times more at most; or is the last one, and stood at the job
 abbrev pub NoneWasted : Workload → Option Job → Round → ℕ → Type 0
 NoneWasted workload next round c =
     (i : ℕ) → 0 < i → i ≤ begun_of round c →
     (HasCommitted round c i × HasFewSights 0 round c i)
-    ⊎ ((WasDisturbed round c i × HasFewSights (rechecks_in workload.version) round c i) ⊎ Waited workload next round c i)
+    ⊎ ((WasDisturbed round c i × HasFewSights (rechecks_in workload.version) round c i)
+    ⊎ ((i ≡ begun_of round c) × Waited workload next round c i))
 
 -- the caller is spent, or its last attempt stood at the job
 abbrev pub HadToStop : Workload → Option Job → Round → ℕ → Type 0
@@ -66,7 +69,8 @@ pub record DidJob (style : Style) (layout : Layout) (job : Job) (k n : Caller) (
   pub few_sights : HasFewSights 0 (round_of n) (number_of n) (begun n)
 
 -- It was given up at the job, which has branches: the job is blocked on every lawful map that agrees with what it has read.
--- Under DSTM it had made sure so many times that this stands, and has used no locator where reads stay reads.
+-- That is of the job's objects alone. Under DSTM it had made sure so many times that this stands, and has used no locator
+-- where reads stay reads.
 pub record StoodAt (style : Style) (rechecks : ℕ) (layout : Layout) (job : Job) (k n : Caller) : Type 0 where
   pub branches : style ≡ Branches
   pub made : OneMore k n
@@ -74,6 +78,7 @@ pub record StoodAt (style : Style) (rechecks : ℕ) (layout : Layout) (job : Job
   pub uncommitted : HasCommitted (round_of n) (number_of n) (begun n) → ⊥
   pub aborted : WasAborted (round_of n) (number_of n) (begun n)
   pub blocked : IsBlockedWith layout (seen_of (round_of n) (number_of n) (begun n)) (Some job)
+  pub inside : AreOfJob layout job.ops (seen_of (round_of n) (number_of n) (begun n))
   pub unused : writes_all (round_of k) ≡ false → used_by (round_of n) (number_of n) ≡ used_by (round_of k) (number_of k)
   pub same_done : done n ≡ done k
 

@@ -8,13 +8,14 @@ use Rattle.dstm_model.specs.Map.{state_after}
 use Rattle.dstm_model.specs.Store.{Store}
 use Rattle.dstm_store.specs.Whole.{StandsFor}
 use Rattle.dstm_workload.specs.declared.workload.Job.{Job}
-use Rattle.dstm_tables.specs.Tells.{HasCommitted, HasFewSights, WasAborted, WasGivenUpAfter, entries_of, start_of, used_by, writes_all}
+use Rattle.dstm_tables.specs.Tells.{HasCommitted, HasFewSights, WasAborted, WasGivenUpAfter, entries_of, seen_of, start_of, used_by, writes_all}
 use Rattle.dstm_jobs.specs.declared.only.OnlyTried.{OnlyTried}
 use Rattle.dstm_jobs.specs.declared.only.OnlyTried.TheVariants as tried
 use Rattle.dstm_jobs.specs.declared.style.Style.{Style}
 use Rattle.dstm_jobs.specs.declared.style.Style.TheVariants.{Branches}
 use Rattle.dstm_jobs.specs.Tables.{Caller, IsSpentFrom, OneMore}
 use Rattle.dstm_tables.specs.Callers.{begun, done, number_of, round_of}
+use Rattle.dstm_jobs.specs.Answers.{AreOfJob}
 use Rattle.dstm_jobs.specs.Jobs.{DidJob}
 
 -- what the caller's transactions have left in the objects
@@ -22,7 +23,8 @@ abbrev pub left_by : Caller → List Val
 left_by k = state_after (start_of (round_of k)) (entries_of (reverse (done k)))
 
 -- The attempt was given up: the job is blocked in the store that the caller's transactions have left. Under DSTM it has
--- made sure once that what it had read stands. Where reads stay reads it has used no locator.
+-- made sure once that what it had read stands. It has read the job's objects alone, and where reads stay reads it has used
+-- no locator.
 pub record StoodAlone (style : Style) (layout : Layout) (job : Job) (k n : Caller) : Type 0 where
   pub branches : style ≡ Branches
   pub made : OneMore k n
@@ -30,6 +32,7 @@ pub record StoodAlone (style : Style) (layout : Layout) (job : Job) (k n : Calle
   pub aborted : WasAborted (round_of n) (number_of n) (begun n)
   pub same_done : done n ≡ done k
   pub blocked : (store : Store) → StandsFor layout (left_by n) store → apply_job job.ops store ≡ None
+  pub inside : AreOfJob layout job.ops (seen_of (round_of n) (number_of n) (begun n))
   pub unused : writes_all (round_of k) ≡ false → used_by (round_of n) (number_of n) ≡ used_by (round_of k) (number_of k)
 
 abbrev pub HasTriedAlone : Style → Layout → Job → (k n : Caller) → OnlyTried → Type 0

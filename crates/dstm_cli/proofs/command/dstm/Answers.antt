@@ -10,20 +10,16 @@ use Rattle.dstm_cli.proofs.Ends.{closed_sights, failed-complete, failed-unplayed
 use Rattle.dstm_cli.proofs.command.dstm.Goals as goal
 
 pub returns-in-Ok-clause-usage : goal.returns-in-Ok-clause-usage
-returns-in-Ok-clause-usage g c is = absurd (between c.in-Ok.status 1 c.in-Ok.ensures.written is (omega arith)
-    (omega arith))
+returns-in-Ok-clause-usage g c is = between c.in-Ok.status 1 c.in-Ok.ensures.written is (omega arith, omega arith)
 
 pub returns-in-Ok-clause-read_fault : goal.returns-in-Ok-clause-read_fault
-returns-in-Ok-clause-read_fault g c is = absurd (between c.in-Ok.status 3 c.in-Ok.ensures.written is (omega arith)
-    (omega arith))
+returns-in-Ok-clause-read_fault g c is = between c.in-Ok.status 3 c.in-Ok.ensures.written is (omega arith, omega arith)
 
 pub returns-in-Ok-clause-write_fault : goal.returns-in-Ok-clause-write_fault
-returns-in-Ok-clause-write_fault g c is = absurd (between c.in-Ok.status 4 c.in-Ok.ensures.written is (omega arith)
-    (omega arith))
+returns-in-Ok-clause-write_fault g c is = between c.in-Ok.status 4 c.in-Ok.ensures.written is (omega arith, omega arith)
 
 pub returns-in-Ok-clause-part : goal.returns-in-Ok-clause-part
-returns-in-Ok-clause-part g c is = absurd (between c.in-Ok.status 4 c.in-Ok.ensures.written is (omega arith)
-    (omega arith))
+returns-in-Ok-clause-part g c is = between c.in-Ok.status 4 c.in-Ok.ensures.written is (omega arith, omega arith)
 
 pub returns-in-Ok-clause-unwritten : goal.returns-in-Ok-clause-unwritten
 returns-in-Ok-clause-unwritten g c not_done no_fault lawful = absurd (⊎_elim not_done lawful c.in-Ok.ensures.written)

@@ -140,7 +140,7 @@ returns-in-Ok-rechecked-clause-tried c =
     rw was.end (stood_at c.args.rechecks c.args.layout.now c.args.job.now k b t u n c.requires.some ran.few one
     (left.done ∙ same_done keeps k b u _ _ _ _ begins place) law size rechecked.stands left.steps begins
     (ap (λ (p : TxPlace _). p.home) place) (ap (λ (p : TxPlace _). p.number) place) (ap (λ (p : TxPlace _). p.began) place)
-    unopened (right at.In-Ok-run Blocked blocked))
+    unopened (right at.In-Ok-run Blocked blocked) (outside at.In-Ok-run))
 
 pub returns-in-Err-rechecked-clause-tried : goal.returns-in-Err-rechecked-clause-tried
 returns-in-Err-rechecked-clause-tried c =
@@ -174,17 +174,17 @@ returns-in-Err-clause-keeps c =
 
 pub returns-in-Ok-commit-clause-keeps : goal.returns-in-Ok-commit-clause-keeps
 returns-in-Ok-commit-clause-keeps c =
-    keeps_reads (ran (goal.at.returns-in-Ok-commit-clause-keeps c).After-caller-in-Ran-1) c.in-Ok-run.ensures.kept tt
+    keeps_reads (ran (goal.at.returns-in-Ok-commit-clause-keeps c).After-caller-in-Ran-1) (λ n. n) c.in-Ok-run.ensures.kept tt
     c.in-Ok-commit.ensures.stays.steps
 
 pub returns-in-Err-commit-clause-keeps : goal.returns-in-Err-commit-clause-keeps
 returns-in-Err-commit-clause-keeps c =
-    keeps_reads (ran (goal.at.returns-in-Err-commit-clause-keeps c).After-caller-in-Ran-1) c.in-Ok-run.ensures.kept tt
+    keeps_reads (ran (goal.at.returns-in-Err-commit-clause-keeps c).After-caller-in-Ran-1) (λ n. n) c.in-Ok-run.ensures.kept tt
     c.in-Err-commit.ensures.leaves.steps
 
 stood_keeping : (c : After-caller-in-Blocked-1) → let_go c.caller-in-Blocked-1.given.0 ≡ let_go c.args.caller.now
 stood_keeping c =
-    keeps_reads (stood c) (c.recheck_often-rechecked.ensures.kept ∙ c.in-Ok-run.ensures.kept) tt c.abandon.ensures.steps
+    keeps_reads (stood c) (λ n. n) (c.recheck_often-rechecked.ensures.kept ∙ c.in-Ok-run.ensures.kept) tt c.abandon.ensures.steps
 
 pub returns-in-Ok-rechecked-clause-keeps : goal.returns-in-Ok-rechecked-clause-keeps
 returns-in-Ok-rechecked-clause-keeps c =
@@ -196,5 +196,5 @@ returns-in-Err-rechecked-clause-keeps c =
 
 pub returns-in-Err-run-clause-keeps : goal.returns-in-Err-run-clause-keeps
 returns-in-Err-run-clause-keeps c =
-    keeps_reads (dropped (goal.at.returns-in-Err-run-clause-keeps c).After-caller-in-Err-run-1)
+    keeps_reads (dropped (goal.at.returns-in-Err-run-clause-keeps c).After-caller-in-Err-run-1) (λ n. n)
     c.in-Err-run.ensures.kept tt c.abandon-in-Err-run.ensures.steps

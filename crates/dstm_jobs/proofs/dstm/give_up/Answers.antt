@@ -49,4 +49,4 @@ returns-in-Err-clause-keeps c =
 
 pub returns-clause-keeps : goal.returns-clause-keeps
 returns-clause-keeps c =
-    keeps_reads (ended (goal.at.returns-clause-keeps c).After-caller-2-1) refl tt c.in-Ok-commit.ensures.stays.steps
+    keeps_reads (ended (goal.at.returns-clause-keeps c).After-caller-2-1) (λ n. n) refl tt c.in-Ok-commit.ensures.stays.steps

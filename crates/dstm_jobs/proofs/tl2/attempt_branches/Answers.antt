@@ -88,7 +88,10 @@ returns-in-Blocked c = λ rechecks.
     right_for c.args.layout.now c.args.job.now.ops c.run.new.self.task c.run.new.self.outcome _ map _
     (ap (λ (j : JobTask). j.layout) ran.task ∙ c.make-body.ensures.layout)
     (ap (λ (j : JobTask). j.ops) ran.task ∙ c.make-body.ensures.ops) (sym c.outcome.ensures ∙ c.in-Blocked.is)
-    (ran.right map admits))))
+    (ran.right map admits))
+    (branch_out c.args.layout.now c.args.job.now.ops c.run.new.self.task _ _
+    (ap (λ (j : JobTask). j.layout) ran.task ∙ c.make-body.ensures.layout)
+    (ap (λ (j : JobTask). j.ops) ran.task ∙ c.make-body.ensures.ops) ran.leaves.1)))
 
 pub returns-in-Err-run : goal.returns-in-Err-run
 returns-in-Err-run c = λ rechecks.
