@@ -3,14 +3,4 @@
 #![tactic(auto)]
 
 #[cfg(test)]
-mod cells;
-#[cfg(test)]
-mod maps;
-#[cfg(test)]
-mod plain;
-#[cfg(test)]
-mod queues;
-#[cfg(test)]
-mod replay;
-#[cfg(test)]
-mod runs;
+mod tests;

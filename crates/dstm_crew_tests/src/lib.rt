@@ -4,16 +4,4 @@
 #![tactic(auto)]
 
 #[cfg(test)]
-mod calls;
-#[cfg(test)]
-mod commands;
-#[cfg(test)]
-mod devices;
-#[cfg(test)]
-mod lines;
-#[cfg(test)]
-mod meetings;
-#[cfg(test)]
-mod rounds;
-#[cfg(test)]
-mod trying;
+mod tests;

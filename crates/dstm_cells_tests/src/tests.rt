@@ -1,0 +1,8 @@
+//! The tests; only a build with tests has them.
+mod cells;
+mod maps;
+mod plain;
+mod queues;
+mod replay;
+mod runs;
+mod views;

@@ -1,5 +1,0 @@
-use Rattle.std.specs.Prelude.{◌<◌, All}
-use Rattle.dstm_crew_tests.proofs.trying.places_of.Given as goal
-
-abbrev pub invariant-loop-place : goal.invariant-loop-place
-invariant-loop-place l = All (λ place. place < l.place) l.places.items

@@ -1,0 +1,20 @@
+//! The tests; only a build with tests has them.
+mod attempts;
+mod calls;
+mod contention;
+mod events;
+mod founding;
+mod guests;
+mod lists;
+mod machine;
+mod managers;
+mod moves;
+mod opacity;
+mod rows;
+mod single;
+mod stale;
+mod tables;
+mod threads;
+mod tl2_meetings;
+mod tl2_words;
+mod words;

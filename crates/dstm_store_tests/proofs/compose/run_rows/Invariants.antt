@@ -1,5 +1,0 @@
-use Rattle.dstm_store.specs.Whole.{IsLawful}
-use Rattle.dstm_store_tests.proofs.compose.run_rows.Given as goal
-
-abbrev pub invariant-loop-i : goal.invariant-loop-i
-invariant-loop-i l = IsLawful l.layout l.values.items

@@ -1,6 +1,0 @@
-use Rattle.std.proofs.Common.{All}
-use Rattle.dstm_model.specs.Layout.{FitsLayout}
-use Rattle.dstm_store_tests.proofs.operations.ops_of.Given as goal
-
-abbrev pub invariant-loop-op : goal.invariant-loop-op
-invariant-loop-op l = All (FitsLayout l.layout) l.ops

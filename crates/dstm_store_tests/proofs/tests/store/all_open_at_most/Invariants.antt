@@ -1,0 +1,14 @@
+use Rattle.std.proofs.Common.{◌≡◌, List, length}
+use Rattle.dstm_model.specs.declared.value.Val.{Val}
+use Rattle.dstm_model.specs.Objects.{objects_of}
+use Rattle.dstm_mem.specs.Memory.{with_set}
+use Rattle.dstm_mem.specs.Flat.{written_in}
+use Rattle.dstm_store.specs.Whole.{IsLawful}
+use Rattle.dstm_store_tests.proofs.tests.store.all_open_at_most.Given as goal
+
+abbrev pub invariant-loop-sweep : goal.invariant-loop-sweep
+invariant-loop-sweep l = record {
+  objects : length l.mem.mem.values.items ≡ objects_of l.layout;
+  lawful : (map : List Val) → map ≡ l.mem.mem.values.items →
+      IsLawful l.layout (with_set map (written_in l.mem.mem.notes.items));
+}
