@@ -111,21 +111,21 @@ fn make_all(me: &mut Me<'_>, map: Map, looks: u32, seed: u64) -> Result<(), Gave
     let mut seed = seed;
     for _ in 0..TRANSACTIONS {
         let drawn = draw(&mut seed, 200 * KEYS);
-        me.atomically(|tx| make(tx, map, looks, drawn))?;
+        make(me, map, looks, drawn)?;
     }
     Ok(())
 }
 
 // A transaction that is drawn: it looks a key up, puts it in or takes it out.
-fn make(tx: &mut Tx<'_>, map: Map, looks: u32, drawn: u32) -> Result<(), Stop> {
+fn make(me: &mut Me<'_>, map: Map, looks: u32, drawn: u32) -> Result<(), GaveUp> {
     let key = u64::from(drawn % KEYS);
     let chance = drawn / KEYS;
     if chance / 2 < looks {
-        get(tx, map, key)
+        me.view(|tx| get(tx, map, key))
     } else if chance % 2 == 0 {
-        put(tx, map, key)
+        me.atomically(|tx| put(tx, map, key))
     } else {
-        remove(tx, map, key)
+        me.atomically(|tx| remove(tx, map, key))
     }
 }
 
