@@ -1,5 +1,5 @@
 -- What an attempt under way has read and set, what a call on it leaves, and how it ends, by either engine.
-use Rattle.std.specs.Prelude.{◌≡◌, ◌≢◌, ◌⊎◌, ℕ, ◌+◌, ◌≤◌, Bool, true, false, List, Option, Result, Err, IsTrue, slice_set}
+use Rattle.std.specs.Prelude.{◌≡◌, ◌≢◌, ◌⊎◌, ℕ, ◌+◌, ◌<◌, ◌≤◌, All, Bool, true, false, List, [], ◌∷◌, Option, None, Some, Result, Err, IsTrue, slice_set}
 use Rattle.dstm_model.specs.Answers.{Committed}
 use Rattle.dstm_model.specs.declared.value.Val.{Val}
 use Rattle.dstm_model.specs.Map.{value_at}
@@ -24,6 +24,16 @@ use Rattle.dstm_attempts.specs.Dstm as by_dstm
 use Rattle.dstm_attempts.specs.Tl2 as by_tl2
 use Rattle.dstm_attempts.specs.declared.error.NotOpened.{NotOpened}
 use Rattle.dstm_attempts.specs.declared.error.NotOpened.TheVariants.{Over, Foreign}
+
+-- the number of the newest of these attempts
+abbrev pub newest_of : List Committed → Option ℕ
+newest_of [] = None
+newest_of (attempt ∷ attempts) = Some attempt.number
+
+-- the first number that is above this one, where it is told
+abbrev pub above : Option ℕ → ℕ
+above None = 0
+above (Some number) = number + 1
 
 -- how an attempt began: by TL2 the log tells it
 pub data Began : Type 0 where
@@ -75,6 +85,11 @@ module _ {L : Type 0} where
   -- no call on an attempt is made
   abbrev pub IsClosed : Caller L → Type 0
   IsClosed k = goes_on k ≡ false
+
+  -- the newest that it has committed has this number, and none has a greater one; where none is told, it has committed none
+  pub record CommitsUpTo (newest : Option ℕ) (k : Caller L) : Type 0 where
+    pub is : newest ≡ newest_of (done k)
+    pub up_to : All (λ (attempt : Committed). attempt.number < above newest) (done k)
 
   -- what a flag tells
   abbrev pub Flags : Bool → Caller L → Type 0

@@ -1,7 +1,7 @@
-ghost use Rattle.std.specs.Prelude.{◌≡◌, ◌≢◌, ◌<◌, ◌≤◌, List, true, false, IfErr, IfOk, Ok, OnOk};
+ghost use Rattle.std.specs.Prelude.{◌≡◌, ◌≢◌, ◌<◌, ◌≤◌, List, [], None, true, false, IfErr, IfOk, IfSome, Ok, OnOk};
 ghost use Rattle.dstm_model.specs.declared.value.Val.{Val};
-ghost use Rattle.dstm_tables.specs.Callers.{begun, home_of};
-ghost use Rattle.dstm_attempts.specs.Attempts.{AddsNothing, Begins, BeginsNone, Finds, Flags, IsAbandoned, IsClosed, IsLost, IsNotOpened, IsOpened, IsQuit, IsSpent, IsStill, Keeps, LeavesLawful, LooksChanged, LooksOnce, LooksSame, LooksSpent, MayBegin, Opens, Puts, Refuses, StoodTogether, TakesEffect, attempts_of, clock, is_under_way, objects_of, renewed};
+ghost use Rattle.dstm_tables.specs.Callers.{begun, done, home_of};
+ghost use Rattle.dstm_attempts.specs.Attempts.{AddsNothing, Begins, BeginsNone, CommitsUpTo, Finds, Flags, IsAbandoned, IsClosed, IsLost, IsNotOpened, IsOpened, IsQuit, IsSpent, IsStill, Keeps, LeavesLawful, LooksChanged, LooksOnce, LooksSame, LooksSpent, MayBegin, Opens, Puts, Refuses, StoodTogether, TakesEffect, TakesUnder, attempts_of, clock, is_under_way, objects_of, renewed};
 ghost use Rattle.dstm_attempts.specs.Waiting.{FindsChange, HasNoRoom, IsSpentLettingGo, LetsGo, RenewsNothing};
 ghost use Rattle.dstm_attempts.specs.declared.error.Look.TheVariants as look;
 
@@ -20,19 +20,24 @@ pub struct Attempts<L: Law> {
     going: bool,
     // Room for what an attempt holds that lets go.
     values: Vec<(u32, Val)>,
+    // The number of the newest one that has committed.
+    newest: Option<u64>,
     ghost under_way: { Flags going caller },
+    ghost up_to: { CommitsUpTo newest caller },
 }
 
 impl<L: Law> Attempts<L> {
-    /// The attempts of a caller that has none under way.
+    /// The attempts of a caller that has none under way, and has committed none.
     pub fn of(alloc: Global, caller: Caller<L>) -> Attempts<L>
         requires closed { IsClosed caller }
+        requires none { done caller ≡ [] }
         ensures { result.caller ≡ caller }
     {
         Attempts {
             caller,
             going: false,
             values: Vec::new(alloc),
+            newest: None,
         }
     }
 
@@ -41,6 +46,13 @@ impl<L: Law> Attempts<L> {
         ensures { result ≡ self.caller }
     {
         self.caller
+    }
+
+    /// The greatest number under which an attempt of the caller has taken effect.
+    pub fn newest(&self) -> Option<u64>
+        ensures up_to { CommitsUpTo result self.now.caller }
+    {
+        self.newest
     }
 
     /// An attempt is under way. By TL2 it is not told where the caller has none left.
@@ -213,16 +225,23 @@ impl<L: Law> Attempts<L> {
         ensures lost { result ≡ false → IsLost L.holds self.old.caller self.new.caller }
         ensures home { home_of self.new.caller ≡ home_of self.old.caller }
     {
-        match &mut self.caller {
-            Caller::Dstm(caller) => match table {
-                Table::Dstm(stm) => Calls::commit(caller, &mut self.going, stm),
-                Table::Tl2(_) => unreachable!(),
-            },
-            Caller::Tl2(caller) => match table {
-                Table::Tl2(stm) => Calls::commit(caller, &mut self.going, stm),
-                Table::Dstm(_) => unreachable!(),
-            },
-        }
+        self.commit_under(table).is_some()
+    }
+
+    /// The same, and answers the number under which it has taken effect.
+    #[inline(always)]
+    #[tactic(auto, using(crate::proofs::Numbers::up_to_same, crate::proofs::Numbers::up_to_taken))]
+    pub fn commit_under(&mut self, table: &Table<L>) -> Option<u64>
+        requires table { home_of self.old.caller ≡ table.now }
+        requires lawful { LeavesLawful L.holds self.old.caller }
+        ensures takes { IfSome result (TakesUnder L.holds self.old.caller self.new.caller) }
+        ensures keeps { result ≡ None → Keeps self.old.caller self.new.caller }
+        ensures lost { result ≡ None → IsLost L.holds self.old.caller self.new.caller }
+        ensures home { home_of self.new.caller ≡ home_of self.old.caller }
+    {
+        let number = commit(&mut self.caller, &mut self.going, table)?;
+        self.newest = Some(number);
+        Some(number)
     }
 
     /// Leaves the attempt. By TL2 there is nothing to do for it.
@@ -249,6 +268,7 @@ impl<L: Law> Attempts<L> {
         ensures same { result ≡ Ok look.Same → LetsGo L.holds self.old.caller self.new.caller }
         ensures changed { result ≡ Ok look.Changed → FindsChange L.holds self.old.caller self.new.caller }
         ensures spent { result ≡ Ok look.Spent → IsSpentLettingGo self.old.caller self.new.caller }
+        ensures unbegun { result ≡ Ok look.Spent → BeginsNone L.holds self.old.caller self.new.caller }
         ensures memory { IfErr result (λ _. HasNoRoom self.old.caller self.new.caller) }
         ensures begun { begun self.old.caller ≤ begun self.new.caller }
         ensures nothing { AddsNothing self.old.caller self.new.caller }
@@ -271,6 +291,7 @@ impl<L: Law> Attempts<L> {
         ensures changed { result ≡ look.Changed → LooksChanged L.holds since self.old.caller self.new.caller }
         ensures spent { result ≡ look.Spent → LooksSpent self.old.caller self.new.caller }
         ensures once { result ≢ look.Spent → LooksOnce L.holds self.old.caller self.new.caller }
+        ensures unbegun { result ≡ look.Spent → BeginsNone L.holds self.old.caller self.new.caller }
         ensures live { result ≡ look.Same → is_under_way self.new.caller ≡ true }
         ensures nothing { AddsNothing self.old.caller self.new.caller }
     {
@@ -284,5 +305,29 @@ impl<L: Law> Attempts<L> {
                 Table::Dstm(_) => unreachable!(),
             },
         }
+    }
+}
+
+// Commits the attempt of a caller. A flag tells whether one is under way.
+#[inline(always)]
+fn commit<L: Law>(caller: &mut Caller<L>, going: &mut bool, table: &Table<L>) -> Option<u64>
+    requires table { home_of caller.old ≡ table.now }
+    requires flags { Flags going.old caller.old }
+    requires lawful { LeavesLawful L.holds caller.old }
+    ensures takes { IfSome result (TakesUnder L.holds caller.old caller.new) }
+    ensures keeps { result ≡ None → Keeps caller.old caller.new }
+    ensures lost { result ≡ None → IsLost L.holds caller.old caller.new }
+    ensures home { home_of caller.new ≡ home_of caller.old }
+    ensures flags { Flags going.new caller.new }
+{
+    match caller {
+        Caller::Dstm(caller) => match table {
+            Table::Dstm(stm) => Calls::commit(caller, going, stm),
+            Table::Tl2(_) => unreachable!(),
+        },
+        Caller::Tl2(caller) => match table {
+            Table::Tl2(stm) => Calls::commit(caller, going, stm),
+            Table::Dstm(_) => unreachable!(),
+        },
     }
 }

@@ -1,9 +1,9 @@
 // The calls on an attempt that the callers of both engines answer, and what each call leaves, in the words of both.
-ghost use Rattle.std.specs.Prelude.{◌≡◌, ◌≢◌, ◌<◌, List, true, false, IfErr, IfOk, OnOk};
+ghost use Rattle.std.specs.Prelude.{◌≡◌, ◌≢◌, ◌<◌, List, None, true, false, IfErr, IfOk, IfSome, OnOk};
 ghost use Rattle.dstm_model.specs.declared.value.Val.{Val};
 ghost use Rattle.dstm_tables.specs.Callers.{begun};
 ghost use Rattle.dstm_tables.specs.declared.tables.Caller.{Caller};
-ghost use Rattle.dstm_attempts.specs.Attempts.{AddsNothing, Begins, BeginsNone, Finds, Flags, IsLost, IsNotOpened, IsOpened, IsQuit, IsSpent, IsStill, Keeps, LeavesLawful, LooksChanged, LooksOnce, LooksSame, LooksSpent, MayBegin, Opens, Puts, Refuses, StoodTogether, TakesEffect, is_under_way, objects_of};
+ghost use Rattle.dstm_attempts.specs.Attempts.{AddsNothing, Begins, BeginsNone, Finds, Flags, IsLost, IsNotOpened, IsOpened, IsQuit, IsSpent, IsStill, Keeps, LeavesLawful, LooksChanged, LooksOnce, LooksSame, LooksSpent, MayBegin, Opens, Puts, Refuses, StoodTogether, TakesUnder, is_under_way, objects_of};
 ghost use Rattle.dstm_attempts.specs.Waiting.{MarksNoMore, RenewsNothing};
 ghost use Rattle.dstm_attempts.specs.declared.error.Look.TheVariants as look;
 
@@ -79,14 +79,14 @@ pub(crate) trait Calls<L: Law, T> {
         ensures opened { IsOpened (caller self.new) object }
         ensures flags { Flags true (caller self.new) };
 
-    /// Commits the attempt, and tells whether it has taken effect.
-    fn commit(&mut self, going: &mut bool, table: &T) -> bool
+    /// Commits the attempt, and answers the number under which it has taken effect.
+    fn commit(&mut self, going: &mut bool, table: &T) -> Option<u64>
         requires table { home self.old ≡ place table.now }
         requires flags { Flags going.old (caller self.old) }
         requires lawful { LeavesLawful L.holds (caller self.old) }
-        ensures takes { result ≡ true → TakesEffect L.holds (caller self.old) (caller self.new) }
-        ensures keeps { result ≡ false → Keeps (caller self.old) (caller self.new) }
-        ensures lost { result ≡ false → IsLost L.holds (caller self.old) (caller self.new) }
+        ensures takes { IfSome result (TakesUnder L.holds (caller self.old) (caller self.new)) }
+        ensures keeps { result ≡ None → Keeps (caller self.old) (caller self.new) }
+        ensures lost { result ≡ None → IsLost L.holds (caller self.old) (caller self.new) }
         ensures home { home self.new ≡ home self.old }
         ensures flags { Flags going.new (caller self.new) };
 
@@ -98,6 +98,7 @@ pub(crate) trait Calls<L: Law, T> {
         ensures changed { result ≡ look.Changed → LooksChanged L.holds since (caller self.old) (caller self.new) }
         ensures spent { result ≡ look.Spent → LooksSpent (caller self.old) (caller self.new) }
         ensures once { result ≢ look.Spent → LooksOnce L.holds (caller self.old) (caller self.new) }
+        ensures unbegun { result ≡ look.Spent → BeginsNone L.holds (caller self.old) (caller self.new) }
         ensures live { result ≡ look.Same → is_under_way (caller self.new) ≡ true }
         ensures nothing { AddsNothing (caller self.old) (caller self.new) }
         ensures flags { Flags going.new (caller self.new) };

@@ -5,7 +5,7 @@ ghost use Rattle.dstm_model.specs.declared.value.Val.{Val};
 ghost use Rattle.dstm_words.specs.Seats.{Home};
 ghost use Rattle.dstm_tables.specs.Callers.{begun};
 ghost use Rattle.dstm_tables.specs.declared.tables.Caller.TheVariants.{Dstm};
-ghost use Rattle.dstm_attempts.specs.Attempts.{AddsNothing, Flags, IsAbandoned, IsQuit, IsUntouched, Keeps, MayBegin};
+ghost use Rattle.dstm_attempts.specs.Attempts.{AddsNothing, BeginsNone, Flags, IsAbandoned, IsQuit, IsUntouched, Keeps, MayBegin};
 ghost use Rattle.dstm_attempts.specs.Waiting.{FindsAll, FindsChange, FindsOther, HasNoRoom, IsSpentLettingGo, LetsGo, OpensFirst, OpensNoMore, RenewsNothing};
 ghost use Rattle.dstm_attempts.specs.declared.error.Look.TheVariants as look;
 
@@ -64,12 +64,12 @@ impl<L: Law> Calls<L, Stm<L>> for Caller<L> {
     }
 
     #[inline(always)]
-    fn commit(&mut self, going: &mut bool, stm: &Stm<L>) -> bool {
+    fn commit(&mut self, going: &mut bool, stm: &Stm<L>) -> Option<u64> {
         if !*going {
-            return false;
+            return None;
         }
         *going = false;
-        self.resume(stm).commit().is_ok()
+        self.resume(stm).commit().ok()
     }
 
     // It looks whether all that the attempt has read is still current. It is left where that is not so.
@@ -119,6 +119,7 @@ pub(crate) fn let_go<L: Law>(
     ensures same { result ≡ Ok look.Same → LetsGo L.holds (Dstm caller.old) (Dstm caller.new) }
     ensures changed { result ≡ Ok look.Changed → FindsChange L.holds (Dstm caller.old) (Dstm caller.new) }
     ensures spent { result ≡ Ok look.Spent → IsSpentLettingGo (Dstm caller.old) (Dstm caller.new) }
+    ensures unbegun { result ≡ Ok look.Spent → BeginsNone L.holds (Dstm caller.old) (Dstm caller.new) }
     ensures memory { IfErr result (λ _. HasNoRoom (Dstm caller.old) (Dstm caller.new)) }
     ensures begun { begun (Dstm caller.old) ≤ begun (Dstm caller.new) }
     ensures nothing { AddsNothing (Dstm caller.old) (Dstm caller.new) }

@@ -54,12 +54,12 @@ impl<L: Law> Calls<L, TlStm<L>> for TlCaller<L> {
         self.resume(stm).set(object, value);
     }
 
-    fn commit(&mut self, going: &mut bool, stm: &TlStm<L>) -> bool {
+    fn commit(&mut self, going: &mut bool, stm: &TlStm<L>) -> Option<u64> {
         if !*going {
-            return false;
+            return None;
         }
         *going = false;
-        self.resume(stm).commit().is_ok()
+        self.resume(stm).commit().ok()
     }
 
     // It looks whether a transaction has drawn a number since: an attempt is begun anew.

@@ -1,15 +1,17 @@
 -- What follows for a run from its seats, and from why it failed.
 use Rattle.std.proofs.Common.{◌≡◌, ◌∙◌, ◌∷◌, [], ◌++◌, ◌+◌, ◌<◌, ◌≤◌, ℕ, List, Ok, Err, ap, append_assoc, arith, drop, length, map, refl, subst, suc, sym, take, zero, inl, inr, ⊎_elim}
-use Rattle.std.specs.Prelude.{◌⊎◌, All, IfErr, IfOk, IsErrAnd, OnOk, Result, slice_index_or}
+use Rattle.std.specs.Prelude.{◌⊎◌, All, IfErr, IfOk, IsErrAnd, None, OnOk, Option, Result, slice_index_or}
 use Rattle.std.proofs.lemmas.Bool.{cases_lt}
 use Rattle.std.proofs.lemmas.Grind.{common_steps}
-use Rattle.std.proofs.lemmas.List.{get_or-map, get_or_push, length-append, length-map, length_push, map_push}
+use Rattle.std.proofs.lemmas.List.{get_or-map, get_or_push, length-append, length-map, length_push, map-append, map_push}
 use Rattle.std.proofs.Math.ListN.{get_or-append}
 use denote.Ref.{MutBor}
 use Rattle.std.specs.Fn.{Shared}
 use Rattle.dstm_cells.specs.declared.error.Failed.{Failed}
 use Rattle.dstm_cells.specs.declared.error.Failed.TheVariants as failed
 use Rattle.dstm_cells.specs.declared.error.GaveUp.{GaveUp}
+use Rattle.dstm_cells.specs.declared.error.GaveUp.TheVariants.{Spent}
+use Rattle.dstm_cells.specs.declared.memory.Ended.{Ended}
 use Rattle.dstm_cells.specs.declared.memory.Seat.{Seat}
 use Rattle.dstm_cells.specs.declared.thread.Part.{Part}
 use Rattle.dstm_cells.specs.declared.under_way.Tx.{Tx}
@@ -17,6 +19,8 @@ use Rattle.dstm_model.specs.declared.value.Law.{Ghosts}
 use Rattle.dstm_model.specs.declared.value.Val.{Val}
 use Rattle.dstm_engine.specs.Tables as dstm
 use Rattle.dstm_tl2_engine.specs.Tables as tl2
+use Rattle.dstm_model.specs.Answers.{Committed}
+use Rattle.dstm_tables.specs.Callers.{done}
 use Rattle.dstm_tables.specs.Engines.{WorksBy}
 use Rattle.dstm_tables.specs.Founders.{Enrols, Retires, founded, made_of}
 use Rattle.dstm_tables.specs.declared.engine.Engine.{Engine}
@@ -26,9 +30,10 @@ use Rattle.dstm_tables.specs.declared.tables.Caller.{Caller}
 use Rattle.dstm_tables.specs.declared.tables.Caller.TheVariants as caller
 use Rattle.dstm_tables.specs.declared.tables.Table.{Table}
 use Rattle.dstm_tables.specs.declared.tables.Table.TheVariants as table
+use Rattle.dstm_attempts.specs.Attempts.{CommitsUpTo, above}
 use Rattle.dstm_cells.specs.Attempts.{CouldNotRead}
-use Rattle.dstm_cells.specs.Cells.{Founds, ReadsAll, Takes}
-use Rattle.dstm_cells.specs.Runs.{AnswerEach, End, EndsSo, FailsByFirst, FailsFor, GivesOutEach, HaveAnswered, InTurn, IsFirst, IsFirstOf, LeavesBy, OnItsTable, RanOn, TakesBackEach, WasCalled, WasUnread, caller_at}
+use Rattle.dstm_cells.specs.Cells.{Founds, ReadsAll, ReadsTooEarly, Takes}
+use Rattle.dstm_cells.specs.Runs.{AnswerEach, AreNumbered, CalledOn, End, EndsSo, FailsByFirst, FailsFor, GivesOutEach, HaveAnswered, HaveNew, InTurn, IsCalled, IsFirst, IsFirstOf, IsNew, LeavesBy, OnItsTable, RanOn, TakesBackEach, WasCalled, WasReadTooEarly, WasUnread, caller_at, ends_of}
 
 -- a vector that was lent as a slice has what was left there, in the same number
 pub lent_back : {X : Type 0} {n count : ℕ} {new whole : List X} (old : List X) → length old ≡ count →
@@ -168,6 +173,26 @@ module _ {T : Type 0} where
         };
       })
 
+  -- the same of threads of which more is told than their ends
+  abbrev end_of : Ended T → End T
+  end_of ended = ended.end
+
+  pub ended_push : (calls : List (Ended T)) (answers : List T) (ended : Ended T) (answer : T) → HaveAnswered (ends_of calls) answers →
+      ended.end ≡ Ok answer → HaveAnswered (ends_of (calls ++ ended ∷ [])) (answers ++ answer ∷ [])
+  ended_push calls answers ended answer have is =
+      subst (λ ends. HaveAnswered ends (answers ++ answer ∷ [])) (sym (map_push end_of calls ended))
+      (answered_push (ends_of calls) answers ended.end answer have is)
+
+  pub many_ended : (calls : List (Ended T)) (answers : List T) → HaveAnswered (ends_of calls) answers → length answers ≡ length calls
+  many_ended calls answers have = as_many (ends_of calls) answers have ∙ length-map calls end_of
+
+  pub first_ended_failed : (calls before rest : List (Ended T)) (ended : Ended T) (answers : List T) (why : GaveUp) →
+      before ++ ended ∷ rest ≡ calls → HaveAnswered (ends_of before) answers → ended.end ≡ Err why →
+      IsFirstOf (ends_of calls) (failed.GaveUp why)
+  first_ended_failed calls before rest ended answers why are have is =
+      first_failed (ends_of calls) (ends_of before) (ends_of rest) ended.end answers why
+      (sym (map-append end_of before (ended ∷ rest)) ∙ ap ends_of are) have is
+
   -- a run whose values were taken has left them, however its threads have ended
   pub each_leaves : {X : Type 0} (ends : List (End T)) (ran same : Type 0) (answer : Result X Failed) →
       IfErr answer (IsFirstOf ends) → ran → LeavesBy ran same answer
@@ -218,18 +243,72 @@ module _ {T : Type 0} where
       told_each ends threads size (λ number end. slice_index_or ends number other ≡ end) other (λ number below. refl) ⊥ answer items
       have first
 
--- a call of a closure on a thread's part
-pub was_called : {S F R : Type 0} (g : Shared F (MutBor S × (ℕ × Unit {0})) (R × (MutBor S × Unit {0}))) (f : F) (number : ℕ)
-    (p q : MutBor S) (answer : R) → g.post f (p, (number, tt)) (answer, (q, tt)) → WasCalled g f number p.now answer
-was_called g f number p q answer met =
-    (q.now, record { shown = p; shows = refl; left = q; met = met; leaves = refl })
+-- ---- calls of a closure on threads' parts
+
+-- how a thread ended of which nothing is told
+pub no_end : {T : Type 0} → Ended T
+no_end = record { end = Err Spent; newest = None }
+
+-- what has committed up to a number stands behind one that is above it
+pub stands_behind : {L : Type 0} (bound : ℕ) (newest : Option ℕ) (k : Caller L) → CommitsUpTo newest k → above newest ≤ bound →
+    All (λ (attempt : Committed). attempt.number < bound) (done k)
+stands_behind bound newest k up_to less number other within =
+    let below = up_to.up_to number other within in omega (arith, below, less)
+
+module _ {L F T : Type 0} {ghosts : Ghosts L}
+    (g : Shared F (MutBor (Part (Tx L ghosts)) × (ℕ × Unit {0})) (End T × (MutBor (Part (Tx L ghosts)) × Unit {0}))) (f : F) where
+  pub was_called : (number : ℕ) (p q : MutBor (Part (Tx L ghosts))) (end : End T) (newest : Option ℕ) →
+      g.post f (p, (number, tt)) (end, (q, tt)) → CommitsUpTo newest q.now.tx.attempts.caller →
+      WasCalled g f number p.now (record { end = end; newest = newest })
+  was_called number p q end newest met up_to =
+      (q.now, record { shown = p; shows = refl; left = q; met = met; leaves = refl }, up_to)
+
+  module _ (holds : L → List Val → Type 0) (table : Table L) where
+    -- the closure was called with this number on a part of the table, and that has committed up to what was told
+    abbrev pub CalledUpTo : ℕ → End T → Option ℕ → Type 0
+    CalledUpTo number end newest = (on : CalledOn holds g f table number end) × CommitsUpTo newest on.ended.tx.attempts.caller
+
+    -- so it was called with each number
+    pub each_called : (seats : List (Seat L ghosts)) (ends : List (Ended T)) (threads : ℕ) → length seats ≡ threads →
+        length ends ≡ threads → HaveNew holds table seats → AreNumbered seats →
+        ((number : ℕ) → number < length seats → (job : Seat L ghosts) × (slice_index_or seats number job ≡ job)
+        × WasCalled g f job.number job.me (slice_index_or ends number no_end)) → (number : ℕ) → number < threads →
+        CalledUpTo number (slice_index_or (ends_of ends) number (Err Spent)) (slice_index_or ends number no_end).newest
+    each_called seats ends threads all many new numbered calls number below =
+        let ended = slice_index_or ends number no_end in
+        let within : number < length seats = omega (arith, all, below) in
+        let (job, is, call) = calls number within in
+        let (left, was, up_to) = call in
+        let on : CalledOn holds g f table number ended.end = record {
+          began = job.me;
+          new = subst (λ (seat : Seat L ghosts). IsNew holds table number seat.me.tx.attempts.caller) is (new number job within);
+          ended = left;
+          call = subst (λ n. IsCalled g f n job.me ended.end left)
+              (ap (λ (seat : Seat L ghosts). seat.number) (sym is) ∙ numbered number job within) was;
+        } in
+        subst (λ end. CalledUpTo number end ended.newest)
+        (sym (get_or-map (λ (e : Ended T). e.end) ends number no_end (Err Spent) (omega (arith, many, below)))) (on, up_to)
+
+-- where the answer is a value this is so, and else nothing is said
+pub told_of : {X : Type 0} (P : Type 0) (answer : Result X Failed) → P → OnOk answer P
+told_of P (Ok x) so = so
+told_of P (Err why) so = tt
 
 -- a last caller of a table has taken its values
-pub last_takes : {L : Type 0} (holds : L → List Val → Type 0) {rule : L} {before after : List Val} {table : Table L}
+abbrev pub last_takes : {L : Type 0} (holds : L → List Val → Type 0) {rule : L} {before after : List Val} {table : Table L}
     {f : Founder L} (g : Founder L) (caller : Caller L) → Founds rule before table f → Enrols holds f g 0 caller →
     ReadsAll holds caller after → Takes holds (founded table) g after
-last_takes holds {after = after} g caller founds enrols reads =
-    subst (λ new. Takes holds new g after) founds.founder (record { caller = caller; enrols = enrols; reads = reads })
+last_takes holds g caller founds enrols reads = record {
+  caller = caller;
+  enrols = subst (λ new. Enrols holds new g 0 caller) founds.founder enrols;
+  reads = reads;
+}
+
+-- where no threads have ended, none has committed too late for it
+pub behind_none : {L T : Type 0} (holds : L → List Val → Type 0) {k n : Caller L} →
+    CouldNotRead holds 64 k n ⊎ ReadsTooEarly holds {T = T} [] k → CouldNotRead holds 64 k n
+behind_none holds (inl unread) = unread
+behind_none holds (inr early) = let below = early.early.below in absurd (omega (arith, below))
 
 module _ {L : Type 0} (holds : L → List Val → Type 0) {engine : Engine} {rule : L} {before : List Val} {table : Table L} {f : Founder L}
     (g : Founder L) (caller : Caller L) (founds : Founds rule before table f) (works : WorksBy engine table)
@@ -246,6 +325,42 @@ module _ {L : Type 0} (holds : L → List Val → Type 0) {engine : Engine} {rul
   -- what has become of a run whose last caller could not read them
   pub was_unread : {after : Caller L} → CouldNotRead holds 64 caller after → WasUnread holds engine rule before
   was_unread {after} unread = on_its_table (record { caller = caller; enrols = enrols; after = after; unread = unread })
+
+-- what has become of one whose last caller came too early
+module _ {L F T : Type 0} {ghosts : Ghosts L}
+    (g : Shared F (MutBor (Part (Tx L ghosts)) × (ℕ × Unit {0})) (End T × (MutBor (Part (Tx L ghosts)) × Unit {0}))) (f : F)
+    (holds : L → List Val → Type 0) {engine : Engine} {rule : L} {before : List Val} {table : Table L} {founder : Founder L}
+    (left : Founder L) (caller : Caller L) (founds : Founds rule before table founder) (works : WorksBy engine table)
+    (enrols : Enrols holds founder left 0 caller) (ends : List (Ended T)) (threads : ℕ) (many : length ends ≡ threads)
+    (calls : (number : ℕ) → number < threads → CalledUpTo g f holds table number (slice_index_or (ends_of ends) number (Err Spent))
+    (slice_index_or ends number no_end).newest) where
+  read_too_early : ReadsTooEarly holds ends caller → WasReadTooEarly holds g f engine rule before threads
+  read_too_early reads =
+      let it = reads.early in
+      let within = it.below in
+      let below : it.number < threads = omega (arith, many, within) in
+      let (on, up_to) = calls it.number below in
+      record {
+        table = table;
+        starts = founds.starts;
+        works = works;
+        number = it.number;
+        below = below;
+        end = slice_index_or (ends_of ends) it.number (Err Spent);
+        call = on;
+        newest = it.newest;
+        committed = sym up_to.is ∙ it.told no_end;
+        left = left;
+        after = reads.values;
+        takes = last_takes holds left caller founds enrols reads.reads;
+        early = it.early;
+      }
+
+  -- why the values were not taken
+  pub not_read : {last : Caller L} → CouldNotRead holds 64 caller last ⊎ ReadsTooEarly holds ends caller →
+      WasUnread holds engine rule before ⊎ WasReadTooEarly holds g f engine rule before threads
+  not_read {last} (inl unread) = inl (was_unread holds left caller founds works enrols {after = last} unread)
+  not_read (inr early) = inr (read_too_early early)
 
 -- why a run failed whose values were not taken
 pub untaken : {T : Type 0} (ended : ℕ → End T → Type 0) (unread : Type 0) (threads : ℕ) (why : Failed) →

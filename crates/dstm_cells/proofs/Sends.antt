@@ -19,7 +19,11 @@ table_sync Y law sync =
     variants_sync (Table.enum Y law) ((TheStm.the_sync Y law sync, tt), ((TheTlStm.the_sync Y law sync, tt), tt))
 
 attempts_send : (Y : RattleType) (law : Ghosts Y.Denot) → IsSend (Attempts.the_row Y law)
-attempts_send Y law = declared_send (Attempts.the_type Y law) (caller_send Y law, (search sendable depth 20, (search (crosses, sendable) depth 20, tt)))
+attempts_send Y law =
+    declared_send (Attempts.the_type Y law) (
+      caller_send Y law,
+      (search sendable depth 20, (search (crosses, sendable) depth 20, (search (crosses, sendable) depth 20, tt))),
+    )
 
 tx_send : (κ : NamedLft) (Y : RattleType) (law : Ghosts Y.Denot) → IsSync Y → IsSend (Tx.the_row κ Y law)
 tx_send κ Y law sync =

@@ -130,6 +130,7 @@ module _ {L : Type 0} where
       pub in_turn : LooksInTurn count old last
       pub stays : StaysLooking old last
       pub spent : LooksSpent last new
+      pub unbegun : BeginsNone holds last new
 
     -- what follows looks, so many at most, and how they leave the caller
     abbrev pub FollowsLooks : (looks : ℕ) → Caller L → Caller L → Result (Unit {0}) GaveUp → Type 0
@@ -142,7 +143,7 @@ module _ {L : Type 0} where
     -- where an attempt has not let go of what it had set: something had changed; or no attempt, or no memory, was left for that
     abbrev pub DoesNotLetGo : Caller L → Caller L → Result (Unit {0}) GaveUp → Type 0
     DoesNotLetGo k n (Ok x) = FindsChange holds k n
-    DoesNotLetGo k n (Err Spent) = IsSpentLettingGo k n
+    DoesNotLetGo k n (Err Spent) = IsSpentLettingGo k n × BeginsNone holds k n
     DoesNotLetGo k n (Err Idle) = ⊥
     DoesNotLetGo k n (Err gave_up.Foreign) = ⊥
     DoesNotLetGo k n (Err gave_up.Memory) = HasNoRoom k n

@@ -1,15 +1,16 @@
 -- The cells of a memory between runs, and the table of a run.
-use Rattle.std.specs.Prelude.{◌≡◌, ◌⊎◌, ℕ, ◌+◌, ◌<◌, replicate, slice_index_or, List, [], ◌∷◌, ◌++◌, length}
+use Rattle.std.specs.Prelude.{◌≡◌, ◌⊎◌, ℕ, ◌+◌, ◌<◌, ◌≤◌, All, Some, replicate, slice_index_or, List, [], ◌∷◌, ◌++◌, length}
 use Rattle.dstm_model.specs.declared.value.Val.{Val}
 use Rattle.dstm_cells.specs.declared.cell.Cell.{Cell}
 use Rattle.dstm_cells.specs.declared.error.Failed.{Failed}
+use Rattle.dstm_cells.specs.declared.memory.Ended.{Ended}
 use Rattle.dstm_cells.specs.declared.error.Failed.TheVariants as failed
 use Rattle.dstm_tables.specs.Founders.{Enrols, founded}
 use Rattle.dstm_tables.specs.Tables.{law_there, objects_there, start_there}
 use Rattle.dstm_tables.specs.declared.founding.Founder.{Founder}
 use Rattle.dstm_tables.specs.declared.tables.Caller.{Caller}
 use Rattle.dstm_tables.specs.declared.tables.Table.{Table}
-use Rattle.dstm_attempts.specs.Attempts.{Begins, Settles, TakesEffect, objects_of}
+use Rattle.dstm_attempts.specs.Attempts.{Begins, Settles, TakesEffect, above, objects_of}
 use Rattle.dstm_cells.specs.Attempts.{CouldNotRead, ReadsInTurn, WereDisturbed}
 
 -- a cell was added to the values of those before, and holds this, by what two words stand for
@@ -34,6 +35,14 @@ pub record AddsAll {T : Type 0} (found : Val → T) (old new : List Val) (cells 
   pub is : found kept ≡ value
   pub behind : new ≡ old ++ replicate (length cells) kept
   pub named : AreNamed (length old) cells
+
+-- a number comes too early: one of these threads has committed under a number that is no smaller
+pub record ComesTooEarly {T : Type 0} (ends : List (Ended T)) (at : ℕ) : Type 0 where
+  pub number : ℕ
+  pub below : number < length ends
+  pub newest : ℕ
+  pub told : (other : Ended T) → (slice_index_or ends number other).newest ≡ Some newest
+  pub early : at ≤ newest
 
 module _ {L : Type 0} (rule : L) (values : List Val) where
   -- a table has an object for each of these values, under this law
@@ -70,6 +79,17 @@ module _ {L : Type 0} (holds : L → List Val → Type 0) where
     pub after : Caller L
     pub takes : TakesEffect holds last after
     pub settles : Settles holds (AreValues values) k after takes.number
+
+  -- THEY WERE READ BEHIND what some threads have committed: under a greater number than any of theirs
+  pub record ReadsBehind {T : Type 0} (ends : List (Ended T)) (k : Caller L) (values : List Val) : Type 0 where
+    pub reads : ReadsAll k values
+    pub behind : All (λ (ended : Ended T). above ended.newest ≤ reads.takes.number) ends
+
+  -- they were not
+  pub record ReadsTooEarly {T : Type 0} (ends : List (Ended T)) (k : Caller L) : Type 0 where
+    pub values : List Val
+    pub reads : ReadsAll k values
+    pub early : ComesTooEarly ends reads.takes.number
 
   -- they were read by a new caller of a table
   pub record Takes (f g : Founder L) (values : List Val) : Type 0 where

@@ -1,19 +1,23 @@
 -- What the threads of a run have done, how it ended, and what it has left.
-use Rattle.std.specs.Prelude.{◌≡◌, ◌⊎◌, ℕ, zero, suc, ◌<◌, IfErr, List, Result, Ok, Err, length, map, slice_index_or}
+use Rattle.std.specs.Prelude.{◌≡◌, ◌⊎◌, ℕ, zero, suc, ◌+◌, ◌<◌, ◌≤◌, All, IfErr, List, Result, Ok, Err, Some, length, map, slice_index_or}
 use denote.Ref.{MutBor}
 use Rattle.std.specs.Fn.{Shared}
 use Rattle.dstm_model.specs.declared.value.Law.{Ghosts}
 use Rattle.dstm_model.specs.declared.value.Val.{Val}
-use Rattle.dstm_tables.specs.Callers.{home_of}
+use Rattle.dstm_model.specs.Answers.{Committed}
+use Rattle.dstm_tables.specs.Callers.{done, home_of}
 use Rattle.dstm_tables.specs.Engines.{WorksBy}
 use Rattle.dstm_tables.specs.Founders.{Enrols, Retires, founded}
+use Rattle.dstm_tables.specs.Tables.{callers_there}
 use Rattle.dstm_tables.specs.declared.engine.Engine.{Engine}
 use Rattle.dstm_tables.specs.declared.founding.Founder.{Founder}
 use Rattle.dstm_tables.specs.declared.tables.Caller.{Caller}
 use Rattle.dstm_tables.specs.declared.tables.Table.{Table}
+use Rattle.dstm_attempts.specs.Attempts.{CommitsUpTo, newest_of}
 use Rattle.dstm_cells.specs.declared.error.Failed.{Failed}
 use Rattle.dstm_cells.specs.declared.error.Failed.TheVariants as failed
 use Rattle.dstm_cells.specs.declared.error.GaveUp.{GaveUp}
+use Rattle.dstm_cells.specs.declared.memory.Ended.{Ended}
 use Rattle.dstm_cells.specs.declared.memory.Seat.{Seat}
 use Rattle.dstm_cells.specs.declared.thread.Part.{Part}
 use Rattle.dstm_cells.specs.declared.under_way.Tx.{Tx}
@@ -179,9 +183,17 @@ module _ {S F R : Type 0} (g : Shared F (MutBor S × (ℕ × Unit {0})) (R × (M
     pub met : g.post f (shown, (number, tt)) (answer, (left, tt))
     pub leaves : left.now ≡ ended
 
-  -- whatever it has left
-  abbrev pub WasCalled : (number : ℕ) (began : S) (answer : R) → Type 0
-  WasCalled number began answer = (ended : S) × IsCalled number began answer ended
+-- how these threads have ended
+abbrev pub ends_of : {T : Type 0} → List (Ended T) → List (End T)
+ends_of calls = map (λ call. call.end) calls
+
+module _ {L F T : Type 0} {ghosts : Ghosts L}
+    (g : Shared F (MutBor (Part (Tx L ghosts)) × (ℕ × Unit {0})) (End T × (MutBor (Part (Tx L ghosts)) × Unit {0}))) (f : F) where
+  -- the closure was called on this part with its number, and its thread has ended so; what it has left has committed up to the
+  -- number that is told
+  abbrev pub WasCalled : (number : ℕ) (began : Part (Tx L ghosts)) (ended : Ended T) → Type 0
+  WasCalled number began ended =
+      (left : Part (Tx L ghosts)) × IsCalled g f number began ended.end left × CommitsUpTo ended.newest left.tx.attempts.caller
 
 module _ {L F T : Type 0} {ghosts : Ghosts L} (holds : L → List Val → Type 0)
     (g : Shared F (MutBor (Part (Tx L ghosts)) × (ℕ × Unit {0})) (End T × (MutBor (Part (Tx L ghosts)) × Unit {0}))) (f : F) where
@@ -201,17 +213,39 @@ module _ {L F T : Type 0} {ghosts : Ghosts L} (holds : L → List Val → Type 0
       pub works : WorksBy engine table
       pub on : CalledOn table number end
 
-    -- A RUN ON ONE TABLE, which was made of these values and works by this engine: the closure was called with each number on a
-    -- new part of it, and the values after it are those that the objects of this table had together at the place of a last
-    -- transaction
+    -- A RUN ON ONE TABLE, which was made of these values, works by this engine and has a caller for each number and one more:
+    -- the closure was called with each number on a new part of it, and the values after it are those that the objects of this
+    -- table had together at the place of a last transaction. That has a greater number than any that a part had committed, as its
+    -- call has left it, and so stands behind all of them.
     pub record Ran (threads : ℕ) (after : List Val) : Type 0 where
       pub table : Table L
       pub starts : Starts rule values table
       pub works : WorksBy engine table
+      pub callers : callers_there table ≡ threads + 1
       pub ends : ℕ → End T
       pub called : (number : ℕ) → number < threads → CalledOn table number (ends number)
       pub left : Founder L
       pub takes : Takes holds (founded table) left after
+      pub behind : (number : ℕ) (below : number < threads) →
+          All (λ (attempt : Committed). attempt.number < takes.reads.takes.number)
+          (done (called number below).ended.tx.attempts.caller)
+
+    -- A RUN WAS READ TOO EARLY: a part had committed, as its call has left it, under a number that is no smaller than that of the
+    -- last transaction
+    pub record WasReadTooEarly (threads : ℕ) : Type 0 where
+      pub table : Table L
+      pub starts : Starts rule values table
+      pub works : WorksBy engine table
+      pub number : ℕ
+      pub below : number < threads
+      pub end : End T
+      pub call : CalledOn table number end
+      pub newest : ℕ
+      pub committed : newest_of (done call.ended.tx.attempts.caller) ≡ Some newest
+      pub left : Founder L
+      pub after : List Val
+      pub takes : Takes holds (founded table) left after
+      pub early : takes.reads.takes.number ≤ newest
 
     -- and what is told of these calls' ends is so
     pub record RanOn (threads : ℕ) (after : List Val) (told : (ℕ → End T) → Type 0) : Type 0 where

@@ -51,7 +51,7 @@ pub enum Failed {
     Threads,
     /// This is how the first thread ended that did not end well. The cells have what took effect until then.
     GaveUp(GaveUp),
-    /// The cells could not be read in the end, and are as before the run.
+    /// The cells could not be read in the end, or not behind all threads, and are as before the run.
     Unread,
     /// The memory has no such cell.
     Foreign,

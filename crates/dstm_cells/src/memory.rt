@@ -1,8 +1,9 @@
 // Cells, and threads that change them.
-ghost use Rattle.std.specs.Prelude.{◌≡◌, ◌⊎◌, ◌↔◌, ◌+◌, ◌<◌, ◌≤◌, ℕ, [], length, slice_index_or, vec_capacity, All, Ok, Err, IfErr, IfOk, OnOk};
+ghost use Rattle.std.specs.Prelude.{◌≡◌, ◌⊎◌, ◌↔◌, ◌+◌, ◌<◌, ◌≤◌, ℕ, [], length, slice_index_or, vec_capacity, All, Ok, Err, true, false, IfErr, IfOk, OnOk};
+ghost use Rattle.dstm_attempts.specs.Attempts.{above};
 ghost use Rattle.dstm_cells.specs.Attempts.{CouldNotRead};
-ghost use Rattle.dstm_cells.specs.Cells.{Adds, AddsAll, AreNamed, Founds, GivesAtMostOne, IsFor, LeavesUnread, ReadsAll, Takes, WantsRoom};
-ghost use Rattle.dstm_cells.specs.Runs.{AnswerEach, AreAt, AreNumbered, CalledFor, FailsByFirst, FailsFor, GivesOutSeats, HaveAnswered, HaveNew, IsFirst, IsFirstOf, IsWorked, LeavesBy, RanInTurn, RanOn, TakesBackSeats, WasCalled, WasUnread};
+ghost use Rattle.dstm_cells.specs.Cells.{Adds, AddsAll, AreNamed, ComesTooEarly, Founds, GivesAtMostOne, IsFor, LeavesUnread, ReadsBehind, ReadsTooEarly, Takes, WantsRoom};
+ghost use Rattle.dstm_cells.specs.Runs.{AnswerEach, AreAt, AreNumbered, CalledFor, FailsByFirst, FailsFor, GivesOutSeats, HaveAnswered, HaveNew, IsFirst, IsFirstOf, IsWorked, LeavesBy, RanInTurn, RanOn, TakesBackSeats, WasCalled, WasReadTooEarly, WasUnread, ends_of};
 ghost use Rattle.dstm_cells.specs.declared.error.Failed.TheVariants as failed;
 ghost use Rattle.dstm_model.specs.Map.{state_after, value_at};
 ghost use Rattle.dstm_tables.specs.Callers.{home_of};
@@ -44,6 +45,13 @@ struct Seat<'a, L: Law> {
     me: Me<'a, L>,
     number: usize,
     ended: Result<(), GaveUp>,
+}
+
+// How a thread has ended, and the number of the newest that its part has committed.
+#[derive(Drop)]
+struct Ended<T> {
+    end: Result<T, GaveUp>,
+    newest: Option<u64>,
 }
 
 impl Memory {
@@ -191,22 +199,28 @@ impl<L: Law + Copy> Memory<L> {
         ensures gives { GivesAtMostOne L.holds founder.old founder.new }
     {
         let mut last = self.part(table, founder, 0)?;
-        self.take_by(&mut last)
+        self.take_by::<()>(&mut last, &[])
     }
 
-    // Takes the values of the cells by a part of a table that was founded for a run.
-    fn take_by(&mut self, last: &mut Me<'_, L>) -> Result<(), Failed>
+    // Takes the values of the cells by a part of a table that was founded for a run, by a transaction that stands behind all that
+    // these threads have committed.
+    fn take_by<T>(&mut self, last: &mut Me<'_, L>, ends: &[Ended<T>]) -> Result<(), Failed>
         requires lawful { L.holds self.old.law self.old.values.items }
         requires founds { IsFor self.old.law self.old.values.items (home_of last.old.tx.attempts.caller) }
         ensures engine { self.new.engine ≡ self.old.engine }
         ensures law { self.new.law ≡ self.old.law }
         ensures lawful { L.holds self.new.law self.new.values.items }
         ensures size { length self.new.values.items ≡ length self.old.values.items }
-        ensures reads { OnOk result (ReadsAll L.holds last.old.tx.attempts.caller self.new.values.items) }
+        ensures reads { OnOk result (ReadsBehind L.holds ends.now last.old.tx.attempts.caller self.new.values.items) }
         ensures fails { IfErr result (λ why. (self.new ≡ self.old) × ((why ≡ failed.Memory) ⊎ (why ≡ failed.Unread))) }
-        ensures unread { result ≡ Err failed.Unread → CouldNotRead L.holds 64 last.old.tx.attempts.caller last.new.tx.attempts.caller }
+        ensures unread { result ≡ Err failed.Unread → CouldNotRead L.holds 64 last.old.tx.attempts.caller last.new.tx.attempts.caller
+            ⊎ ReadsTooEarly L.holds ends.now last.old.tx.attempts.caller }
     {
-        self.values = last.tx.values(self.alloc, self.values.len() as u32)?;
+        let (values, number) = last.tx.values(self.alloc, self.values.len() as u32)?;
+        if !are_before(ends, number) {
+            return Err(Failed::Unread);
+        }
+        self.values = values;
         Ok(())
     }
 
@@ -321,7 +335,8 @@ impl<L: Law + Copy + Sync> Memory<L> {
 
 impl Memory {
     /// Calls the closure with each number below `threads`, from 1 to 63, each in a thread of its own where one can be
-    /// made, and gives it the thread's part by which to make transactions.
+    /// made, and gives it the thread's part by which to make transactions. The values that it leaves are read behind all that
+    /// the threads have committed.
     pub fn run<R: Threads + Sync, F>(&mut self, rt: &R, threads: u32, f: F) -> Result<(), Failed>
     where
         F: Fn(&mut Me<'_>, usize) -> Result<(), GaveUp> + Sync,
@@ -334,7 +349,8 @@ impl Memory {
             → CalledFor ⟦<AnyLaw as Law>⟧.holds F.Fn f self.old.engine self.old.law self.old.values.items number (Ok tt)) }
         ensures fails { IfErr result (FailsFor
             (CalledFor ⟦<AnyLaw as Law>⟧.holds F.Fn f self.old.engine self.old.law self.old.values.items)
-            (WasUnread ⟦<AnyLaw as Law>⟧.holds self.old.engine self.old.law self.old.values.items) threads) }
+            (WasUnread ⟦<AnyLaw as Law>⟧.holds self.old.engine self.old.law self.old.values.items
+            ⊎ WasReadTooEarly ⟦<AnyLaw as Law>⟧.holds F.Fn f self.old.engine self.old.law self.old.values.items threads) threads) }
         ensures left { LeavesBy (RanOn ⟦<AnyLaw as Law>⟧.holds F.Fn f self.old.engine self.old.law self.old.values.items threads
             self.new.values.items (λ ends. OnOk result ((number : ℕ) → number < threads → ends number ≡ Ok tt)
             × FailsByFirst ends threads result)) (self.new ≡ self.old) result }
@@ -364,7 +380,8 @@ impl Memory {
             (Ok (slice_index_or answers.items number other))) }
         ensures fails { IfErr result (FailsFor
             (CalledFor ⟦<AnyLaw as Law>⟧.holds F.Fn f self.old.engine self.old.law self.old.values.items)
-            (WasUnread ⟦<AnyLaw as Law>⟧.holds self.old.engine self.old.law self.old.values.items) threads) }
+            (WasUnread ⟦<AnyLaw as Law>⟧.holds self.old.engine self.old.law self.old.values.items
+            ⊎ WasReadTooEarly ⟦<AnyLaw as Law>⟧.holds F.Fn f self.old.engine self.old.law self.old.values.items threads) threads) }
         ensures left { LeavesBy (RanOn ⟦<AnyLaw as Law>⟧.holds F.Fn f self.old.engine self.old.law self.old.values.items threads
             self.new.values.items (λ ends. IfOk result (λ answers. AnswerEach ends threads answers.items)
             × FailsByFirst ends threads result)) (self.new ≡ self.old) result }
@@ -381,7 +398,7 @@ impl Memory {
                 ensures { WasCalled F.Fn f seat.entry.number seat.entry.me result }
             { answer(&f, seat) },
         )?;
-        self.take_by(&mut reader)?;
+        self.take_by(&mut reader, &ends)?;
         all_answers(answers, ends)
     }
 }
@@ -415,8 +432,8 @@ fn how_all_ended<L: Law>(seats: &[Seat<'_, L>]) -> Result<(), Failed>
     Ok(())
 }
 
-// Calls the closure on a seat, and hands back what it has answered.
-fn answer<T, F>(f: &F, seat: Seat<'_, AnyLaw>) -> Result<T, GaveUp>
+// Calls the closure on a seat, and hands back what it has answered, and up to which number its part has committed then.
+fn answer<T, F>(f: &F, seat: Seat<'_, AnyLaw>) -> Ended<T>
 where
     F: Fn(&mut Me<'_>, usize) -> Result<T, GaveUp>,
     requires callable { F.IsAlwaysCallable f.now }
@@ -424,18 +441,38 @@ where
 {
     let Seat { me, number, .. } = seat;
     let mut me = me;
-    f(&mut me, number)
+    let end = f(&mut me, number);
+    Ended {
+        end,
+        newest: me.tx.attempts.newest(),
+    }
+}
+
+// Whether all that these threads have committed has smaller numbers.
+fn are_before<T>(ends: &[Ended<T>], number: u64) -> bool
+    ensures before { result ≡ true → All (λ ended. above ended.newest ≤ number) ends.now }
+    ensures early { result ≡ false → ComesTooEarly ends.now number }
+{
+    for ended in ends {
+        if let Some(newest) = ended.newest {
+            if newest >= number {
+                return false;
+            }
+        }
+    }
+    true
 }
 
 // What all threads have answered, or how the first one ended that did not end well.
-fn all_answers<T: Drop>(answers: Vec<T>, ends: Vec<Result<T, GaveUp>>) -> Result<Vec<T>, Failed>
+fn all_answers<T: Drop>(answers: Vec<T>, ends: Vec<Ended<T>>) -> Result<Vec<T>, Failed>
     requires none { answers.items ≡ [] }
     requires room { length ends.items ≤ vec_capacity answers }
-    ensures well { IfOk result (λ answers. HaveAnswered ends.items answers.items) }
-    ensures first { IfErr result (IsFirstOf ends.items) }
+    ensures well { IfOk result (λ answers. HaveAnswered (ends_of ends.items) answers.items) }
+    ensures first { IfErr result (IsFirstOf (ends_of ends.items)) }
 {
     let mut answers = answers;
-    for end in ends {
+    for ended in ends {
+        let Ended { end, .. } = ended;
         match end {
             Ok(answer) => answers.push_reserved(answer),
             Err(why) => return Err(Failed::GaveUp(why)),

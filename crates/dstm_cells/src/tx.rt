@@ -1,6 +1,6 @@
 // What a closure may do in its transaction.
 ghost use Rattle.std.specs.Prelude.{◌++◌, ◌⊎◌, ◌≡◌, List, [], ◌∷◌, length, true, false, IfErr, IfOk, Ok, OnOk, Err, if◌then◌else◌};
-ghost use Rattle.dstm_tables.specs.Callers.{home_of, law_of};
+ghost use Rattle.dstm_tables.specs.Callers.{done, home_of, law_of};
 ghost use Rattle.dstm_attempts.specs.Attempts.{Exchanges, Finds, IsClosed, IsUntouched, Keeps, MayBegin, Opens, StoodTogether, objects_of};
 ghost use Rattle.dstm_cells.specs.Alternatives.{Notes, NotesOnce, OpensAndSets, OrElse, noting, settings};
 ghost use Rattle.dstm_cells.specs.Attempts.{CouldNotRead, Follows, FollowsLooks, FollowsRetry, ReadsInTurn, StaysFor, StaysLooking, StaysWaiting, StopsReading};
@@ -32,6 +32,7 @@ impl<'a, L: Law> Tx<'a, L> {
     pub(crate) fn new(alloc: Global, caller: Caller<L>, table: &'a Table<L>) -> Tx<'a, L>
         requires table { home_of caller ≡ table.now }
         requires closed { IsClosed caller }
+        requires none { done caller ≡ [] }
         ensures caller { result.attempts.caller ≡ caller }
         ensures looks { result.looks ≡ 1048576 }
     {
@@ -227,12 +228,13 @@ impl<'a, L: Law> Tx<'a, L> {
         Err(GaveUp::Idle)
     }
 
-    // The values of all objects, so many, by one transaction. They are lawful.
-    pub(crate) fn values(&mut self, alloc: Global, objects: u32) -> Result<Vec<Val>, Failed>
+    // The values of all objects, so many, by one transaction, and its number. They are lawful.
+    pub(crate) fn values(&mut self, alloc: Global, objects: u32) -> Result<(Vec<Val>, u64), Failed>
         requires all { objects ≡ objects_of self.old.attempts.caller }
-        ensures all { IfOk result (λ values. length values.items ≡ objects) }
-        ensures lawful { IfOk result (λ values. L.holds (law_of self.old.attempts.caller) values.items) }
-        ensures reads { IfOk result (λ values. ReadsAll L.holds self.old.attempts.caller values.items) }
+        ensures all { IfOk result (λ read. length read.0.items ≡ objects) }
+        ensures lawful { IfOk result (λ read. L.holds (law_of self.old.attempts.caller) read.0.items) }
+        ensures reads { IfOk result (λ read.
+            (reads : ReadsAll L.holds self.old.attempts.caller read.0.items) × (reads.takes.number ≡ read.1)) }
         ensures fails { IfErr result (λ why. (why ≡ failed.Memory) ⊎ (why ≡ failed.Unread)) }
         ensures unread { result ≡ Err failed.Unread → CouldNotRead L.holds 64 self.old.attempts.caller self.new.attempts.caller }
     {
@@ -242,8 +244,8 @@ impl<'a, L: Law> Tx<'a, L> {
             };
             match self.all(alloc, objects) {
                 Ok(values) => {
-                    if self.commit() {
-                        return Ok(values);
+                    if let Some(number) = self.attempts.commit_under(self.table) {
+                        return Ok((values, number));
                     }
                 }
                 Err(Stop { why: Why::Again }) => {}

@@ -70,7 +70,7 @@ caller_send =
 attempts_send : IsSend (Attempts.the_row AnyLaw.the_row TheLaw.ghosts)
 attempts_send =
     declared_send (Attempts.the_type AnyLaw.the_row TheLaw.ghosts)
-    (caller_send, (search sendable depth 20, (search (crosses, sendable) depth 20, tt)))
+    (caller_send, (search sendable depth 20, (search (crosses, sendable) depth 20, (search (crosses, sendable) depth 20, tt))))
 
 pub thread_send : IsSend Thread.the_row
 thread_send =

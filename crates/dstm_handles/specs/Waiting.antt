@@ -3,7 +3,7 @@ use Rattle.std.specs.Prelude.{◌≡◌, ◌≢◌, ◌⊎◌, Bool, false, true
 use Rattle.dstm_model.specs.declared.value.Val.{Val}
 use Rattle.dstm_model.specs.declared.value.AnyLaw.{AnyLaw}
 use Rattle.dstm_tables.specs.declared.tables.Caller.{Caller}
-use Rattle.dstm_attempts.specs.Attempts.{LooksChanged, LooksOnce, LooksSame, LooksSpent}
+use Rattle.dstm_attempts.specs.Attempts.{BeginsNone, LooksChanged, LooksOnce, LooksSame, LooksSpent}
 use Rattle.dstm_attempts.specs.Waiting.{IsSpentLettingGo, LetsGo}
 use Rattle.dstm_attempts.specs.Waiting as attempts
 use Rattle.dstm_handles.specs.declared.code.Code.{Code}
@@ -25,7 +25,7 @@ FindsChangeBefore false old new = attempts.FindsChange any old new
 FindsChangeBefore true old new = ⊥
 
 abbrev pub IsSpentBefore : (waits : Bool) → Caller AnyLaw → Caller AnyLaw → Type 0
-IsSpentBefore false old new = IsSpentLettingGo old new
+IsSpentBefore false old new = IsSpentLettingGo old new × BeginsNone any old new
 IsSpentBefore true old new = ⊥
 
 abbrev pub HasNoRoomBefore : (waits : Bool) → Caller AnyLaw → Caller AnyLaw → Type 0
@@ -54,6 +54,7 @@ pub record LooksOnSpent (old new : Thread) : Type 0 where
   pub first : Caller AnyLaw
   pub lets_go : LetsGoBefore old.waits old.attempts.caller first
   pub looks : LooksSpent first new.attempts.caller
+  pub unbegun : BeginsNone any first new.attempts.caller
 
 abbrev pub IsSpentLooking : Thread → Thread → Type 0
 IsSpentLooking old new = IsSpentBefore old.waits old.attempts.caller new.attempts.caller ⊎ LooksOnSpent old new

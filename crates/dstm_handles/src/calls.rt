@@ -1,9 +1,9 @@
 // The calls of a thread's part.
 ghost use Rattle.std.specs.Prelude.{◌≡◌, ◌≢◌, ◌⊎◌, ◌<◌, ◌++◌, List, [], ◌∷◌, length, true, false, None, IfErr, IfOk, IfSome, Ok, OnOk};
 ghost use Rattle.std.specs.Arc.{arc_value};
-ghost use Rattle.dstm_attempts.specs.Attempts.{AddsNothing, Begins, Exchanges, Finds, IsAbandoned, IsClosed, IsQuit, IsSpent, LooksChanged, LooksOnce, LooksSame, LooksSpent, MayBegin, Opens, SetsNothing, StoodTogether, TakesEffect, begun, clock, goes_on};
+ghost use Rattle.dstm_attempts.specs.Attempts.{AddsNothing, Begins, BeginsNone, Exchanges, Finds, IsAbandoned, IsClosed, IsQuit, IsSpent, LooksChanged, LooksOnce, LooksSame, LooksSpent, MayBegin, Opens, SetsNothing, StoodTogether, TakesEffect, begun, clock, goes_on};
 ghost use Rattle.dstm_model.specs.declared.value.Val.{Val};
-ghost use Rattle.dstm_tables.specs.Callers.{home_of};
+ghost use Rattle.dstm_tables.specs.Callers.{done, home_of};
 ghost use Rattle.dstm_handles.specs.Threads.{GoesOn, HasNoMark, IsOpen, MayCall, Refuses, RefusesAll, RefusesBy, StopsChange, StopsCommit, StopsLook, StopsUndoing, WasRefused, code_for, starting};
 ghost use Rattle.dstm_handles.specs.Undoing.{IsNoted, Undoes};
 ghost use Rattle.dstm_handles.specs.Waiting.{FindsChange, FindsChangeBefore, FindsNoChange, HasNoRoom, HasNoRoomBefore, IsSpentBefore, IsSpentLooking, LetsGoBefore};
@@ -28,6 +28,7 @@ impl Thread {
     ) -> Thread
         requires home { home_of caller ≡ arc_value table }
         requires closed { IsClosed caller }
+        requires none { done caller ≡ [] }
         ensures caller { result.attempts.caller ≡ caller }
         ensures idle { result.begun ≡ false }
     {
@@ -268,6 +269,8 @@ impl Thread {
             self.old.attempts.caller self.new.attempts.caller }
         ensures spent { result ≡ Spent → LooksSpent self.old.attempts.caller self.new.attempts.caller }
         ensures once { (result ≡ Done) ⊎ (result ≡ Again) → LooksOnce ⟦<AnyLaw as Law>⟧.holds self.old.attempts.caller
+            self.new.attempts.caller }
+        ensures unbegun { result ≡ Spent → BeginsNone ⟦<AnyLaw as Law>⟧.holds self.old.attempts.caller
             self.new.attempts.caller }
         ensures only { (result ≢ Memory) × (result ≢ Idle) }
         ensures tells { (result ≡ Done) ⊎ (result ≡ Again) ⊎ (result ≡ Spent) }

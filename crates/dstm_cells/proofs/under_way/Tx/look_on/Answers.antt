@@ -54,6 +54,7 @@ returns-in-Spent-clause-follows g c = record {
   in_turn = c.loop-look.invariant.5;
   stays = c.loop-look.invariant.0;
   spent = c.look.ensures.spent c.in-Spent.is;
+  unbegun = c.look.ensures.unbegun c.in-Spent.is;
 }
 
 pub returns-clause-stays : goal.returns-clause-stays

@@ -1,45 +1,40 @@
 use Rattle.std.proofs.Common.{◌∙◌, ◌≡◌, ap, arith, inl, inr, refl, rules, subst, sym}
-use Rattle.dstm_attempts.specs.Attempts.{Begins, attempt}
+use Rattle.dstm_attempts.specs.Attempts.{Begins, TakesEffect, attempt}
 use Rattle.dstm_cells.specs.Attempts.{WasDisturbed}
 use Rattle.dstm_cells.specs.Cells.{AreValues}
 use Rattle.dstm_cells.specs.declared.under_way.Tx.{Tx}
 use Rattle.dstm_attempts.proofs.Settling.{settles_right}
-use Rattle.dstm_attempts.proofs.UnderWay.{nothing_twice, same_law}
+use Rattle.dstm_attempts.proofs.UnderWay.{nothing_twice}
 use Rattle.dstm_cells.proofs.Reading.{disturbed_once}
 use Rattle.dstm_cells.proofs.Spending.{begun_in_vain}
 use Rattle.dstm_cells.proofs.Waiting.{nothing_added}
-use Rattle.dstm_cells.proofs.under_way.Tx.values.Goals.{in-Ok-all+else-commit, in-Err-Again}
+use Rattle.dstm_cells.proofs.under_way.Tx.values.Goals.{in-Ok-all+in_default-commit_under, in-Err-Again}
 use Rattle.dstm_cells.proofs.under_way.Tx.values.Goals as goal
 
-pub returns-then-commit-clause-reads : goal.returns-then-commit-clause-reads
-returns-then-commit-clause-reads g c =
+pub returns-in-Some-clause-reads : goal.returns-in-Some-clause-reads
+returns-in-Some-clause-reads g c =
     let began = c.begin.new.self.attempts.caller in
     let ended = c.all.new.self.attempts.caller in
-    let new = c.commit.new.self.attempts.caller in
+    let new = c.commit_under.new.self.caller in
     let begins : Begins g.L.Law.holds c.loop-reading.self.attempts.caller began = c.in-Ok.ensures.begins in
-    let takes = c.commit.ensures.takes c.if-commit.true in
-    record {
-      attempts = c.loop-reading._reading;
-      before = c.loop-reading.self.attempts.caller;
-      disturbed = c.loop-reading.invariant.2;
-      began = began;
-      begins = begins;
-      last = ended;
-      reads = c.in-Ok-all.ensures.in_turn;
-      after = new;
-      takes = takes;
-      settles = settles_right g.L.Law.holds c.args.self.ghost_name c.args.self.now.attempts.caller
-          c.loop-reading.self.attempts.caller began ended new
-          c.loop-reading.invariant.0 begins c.in-Ok-all.ensures.keeps takes (AreValues c.in-Ok-all.values.items)
-          (λ map may. let is = c.in-Ok-all.ensures.reads map may in (is, c.in-Ok-all.ensures.untouched map ∙ is));
-    }
-
-pub returns-then-commit-clause-lawful : goal.returns-then-commit-clause-lawful
-returns-then-commit-clause-lawful g c =
-    let first = c.args.self.now.attempts.caller in
-    let began = c.begin.new.self.attempts.caller in
-    let nothing = nothing_twice first c.loop-reading.self.attempts.caller began c.loop-reading.invariant.0 c.begin.ensures.nothing in
-    subst (λ law. g.L.Law.holds law c.in-Ok-all.values.items) (same_law first began nothing.home) c.in-Ok-all.ensures.lawful
+    let takes : TakesEffect g.L.Law.holds ended new = record { number = c.in-Some.number; takes = c.in-Some.ensures.takes } in (
+      record {
+        attempts = c.loop-reading._reading;
+        before = c.loop-reading.self.attempts.caller;
+        disturbed = c.loop-reading.invariant.2;
+        began = began;
+        begins = begins;
+        last = ended;
+        reads = c.in-Ok-all.ensures.in_turn;
+        after = new;
+        takes = takes;
+        settles = settles_right g.L.Law.holds c.args.self.ghost_name c.args.self.now.attempts.caller
+            c.loop-reading.self.attempts.caller began ended new
+            c.loop-reading.invariant.0 begins c.in-Ok-all.ensures.keeps takes (AreValues c.in-Ok-all.values.items)
+            (λ map may. let is = c.in-Ok-all.ensures.reads map may in (is, c.in-Ok-all.ensures.untouched map ∙ is));
+      },
+      refl,
+    )
 
 pub loop-reading-init : goal.loop-reading-init
 loop-reading-init g c = (nothing_added c.args.self.now.attempts.caller, omega arith, refl)
@@ -54,13 +49,13 @@ loop-reading-preserved g c =
     let (nothing, more, disturbed) = c.loop-reading.invariant in
     let kept : attempt c.match-all.self.attempts.caller ≡ attempt c.all.new.self.attempts.caller =
     elim c.match-all.branch [
-      | in-Ok-all+else-commit w ↦
-          ap (λ (tx : Tx _ _). attempt tx.attempts.caller) w.self-is ∙ w.commit.ensures.keeps w.if-commit.false
+      | in-Ok-all+in_default-commit_under w ↦
+          ap (λ (tx : Tx _ _). attempt tx.attempts.caller) w.self-is ∙ w.commit_under.ensures.keeps w.in_default-commit_under.is
       | in-Err-Again w ↦ ap (λ (tx : Tx _ _). attempt tx.attempts.caller) w.self-is
     ] in
     let once : WasDisturbed holds before c.match-all.self.attempts.caller =
     elim c.match-all.branch [
-      | in-Ok-all+else-commit w ↦
+      | in-Ok-all+in_default-commit_under w ↦
           subst (λ (tx : Tx _ _). WasDisturbed holds before tx.attempts.caller) (sym w.self-is)
           (record {
             began = began;
@@ -68,8 +63,8 @@ loop-reading-preserved g c =
             ends = inr (record {
               last = c.all.new.self.attempts.caller;
               reads = w.in-Ok-all.ensures.in_turn;
-              keeps = w.commit.ensures.keeps w.if-commit.false;
-              lost = w.commit.ensures.lost w.if-commit.false;
+              keeps = w.commit_under.ensures.keeps w.in_default-commit_under.is;
+              lost = w.commit_under.ensures.lost w.in_default-commit_under.is;
             });
           })
       | in-Err-Again w ↦

@@ -21,7 +21,8 @@ returns-in-Ok-Changed-clause-follows g c =
 
 pub returns-in-Ok-Spent-clause-follows : goal.returns-in-Ok-Spent-clause-follows
 returns-in-Ok-Spent-clause-follows g c =
-    inr (c.let_go.ensures.spent (c.in-Ok-Spent.is ∙ ap Ok c.in-Ok-Spent.field-0-is))
+    let spent = c.in-Ok-Spent.is ∙ ap Ok c.in-Ok-Spent.field-0-is in
+    inr (c.let_go.ensures.spent spent, c.let_go.ensures.unbegun spent)
 
 pub returns-in-Err-clause-follows : goal.returns-in-Err-clause-follows
 returns-in-Err-clause-follows g c = inr c.in-Err.ensures.memory

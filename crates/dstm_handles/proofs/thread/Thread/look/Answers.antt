@@ -29,4 +29,5 @@ returns-in-Ok-Same-clause-spent c h = inr (record {
   first = c.let_go.new.self.attempts.caller;
   lets_go = c.let_go.ensures.same (c.in-Ok-Same.is ∙ ap Ok c.in-Ok-Same.field-0-is);
   looks = c.look_on.ensures.spent h;
+  unbegun = c.look_on.ensures.unbegun h;
 })
