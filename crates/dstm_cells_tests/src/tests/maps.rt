@@ -1,6 +1,6 @@
 // A map, an ordered one and a set, by rows of calls, and beside the map of std. Each call is made on all in one transaction.
 use crate::tests::plain::{Change, Part, atomically, is_so, memory_by};
-use crate::tests::queues::draw;
+use crate::tests::queues::{draw, is_a_deque};
 use dstm_cells::{Failed, GaveUp, Manager, Me, Memory, Stop, Tx};
 use dstm_structures::{HashMap, Inserted, OrderedMap, OrderedSet, Placed};
 use std::alloc::Global;
@@ -18,6 +18,7 @@ pub enum Call {
     Last,
     Above(u64),
     Pop,
+    Len,
 }
 
 #[derive(Clone, Copy, PartialEq)]
@@ -26,6 +27,7 @@ pub enum Answer {
     Value(Option<u64>),
     There(bool),
     Entry(Option<(u64, u64)>),
+    Count(usize),
 }
 
 #[derive(Clone, Copy)]
@@ -53,6 +55,7 @@ fn call_ordered(tx: &mut Tx<'_>, map: OrderedMap<u64>, call: Call) -> Result<Ans
         Call::Last => Ok(Answer::Entry(map.last(tx)?)),
         Call::Above(key) => Ok(Answer::Entry(map.next_above(tx, key)?)),
         Call::Pop => Ok(Answer::Entry(map.pop_first(tx)?)),
+        Call::Len => Ok(Answer::Count(map.len(tx)? as usize)),
     }
 }
 
@@ -72,6 +75,7 @@ fn call_hashed(
             Some(value) => Ok(Answer::Entry(Some((key, value)))),
             None => Ok(Answer::Entry(None)),
         },
+        (Call::Len, _) => Ok(Answer::Count(map.len(tx)? as usize)),
         _ => Ok(told),
     }
 }
@@ -87,6 +91,7 @@ fn call_set(tx: &mut Tx<'_>, set: OrderedSet, call: Call) -> Result<Answer, Stop
         Call::Last => Ok(entry(set.last(tx)?)),
         Call::Above(key) => Ok(entry(set.next_above(tx, key)?)),
         Call::Pop => Ok(entry(set.pop_first(tx)?)),
+        Call::Len => Ok(Answer::Count(set.len(tx)? as usize)),
     }
 }
 
@@ -143,23 +148,6 @@ impl Change for Ask {
 
     fn make(&self, tx: &mut Tx<'_>) -> Result<Option<Answer>, Stop> {
         call_all(tx, self.maps, self.call)
-    }
-}
-
-// How many keys each has.
-#[derive(Drop)]
-struct Count {
-    maps: Maps,
-}
-
-impl Change for Count {
-    type Answer = (u32, u32, u32);
-
-    fn make(&self, tx: &mut Tx<'_>) -> Result<(u32, u32, u32), Stop> {
-        let hashed = self.maps.hashed.len(tx)?;
-        let ordered = self.maps.ordered.len(tx)?;
-        let set = self.maps.set.len(tx)?;
-        Ok((hashed, ordered, set))
     }
 }
 
@@ -262,12 +250,13 @@ fn has_these(
     alloc: Global,
     left: &[(u64, u64)],
 ) -> Result<bool, GaveUp> {
-    let (hashed, ordered, set) = atomically(me, &Count { maps })?;
+    let call = Call::Len;
+    let count = atomically(me, &Ask { maps, call })?;
     let map = maps.ordered;
     let sorted = atomically(me, &InOrder { map, alloc })?;
     let map = maps.hashed;
     let items = atomically(me, &Items { map, alloc })?;
-    let same = hashed as usize == left.len() && ordered == hashed && set == hashed;
+    let same = count == Some(Answer::Count(left.len()));
     Ok(same && sorted.as_slice() == left && (left.len() > 1 || items.as_slice() == left))
 }
 
@@ -382,7 +371,8 @@ fn call_of(drawn: u64) -> Call {
         12 => Call::First,
         13 => Call::Last,
         14 => Call::Pop,
-        _ => Call::Get(key),
+        _ if drawn / 32 % 2 == 0 => Call::Get(key),
+        _ => Call::Len,
     }
 }
 
@@ -444,6 +434,7 @@ pub fn expected(plain: &mut BTreeMap<u64, u64>, call: Call, room: u32) -> Result
         Call::Above(u64::MAX) => Ok(Answer::Entry(None)),
         Call::Above(key) => Ok(Answer::Entry(first_from(plain, key + 1))),
         Call::Pop => Ok(Answer::Entry(popped(plain))),
+        Call::Len => Ok(Answer::Count(plain.len())),
     }
 }
 
@@ -455,23 +446,57 @@ struct BesideStd {
     rounds: u32,
 }
 
-impl BesideStd {
-    // Fifty calls on the empty maps, and twelve that empty them; and whether all are answered as by the map of std.
-    fn once(&self, me: &mut Me<'_>, seed: &mut u64) -> Result<bool, GaveUp> {
-        let maps = self.maps;
-        let mut plain = BTreeMap::new(self.alloc);
-        for number in 0..62u32 {
-            let call = if number < 50 {
-                call_of(draw(seed))
-            } else {
-                Call::Pop
-            };
-            let wanted = expected(&mut plain, call, 12)?;
-            if atomically(me, &Ask { maps, call })? != Some(wanted) {
-                return Ok(false);
-            }
+// Whether a map of std has these items and no others.
+pub fn has_items(plain: &BTreeMap<u64, u64>, items: &[(u64, u64)]) -> bool {
+    let mut rest = items.iter();
+    for (key, value) in plain {
+        match rest.next() {
+            Some(item) if *item == (*key, *value) => {}
+            _ => return false,
         }
-        Ok(plain.is_empty())
+    }
+    rest.next().is_none()
+}
+
+impl BesideStd {
+    // Fifty calls on the empty maps, and twelve that empty them; and whether all are answered as by the map of std, and the maps
+    // have its items behind the fiftieth.
+    fn once(&self, me: &mut Me<'_>, seed: &mut u64) -> Result<bool, GaveUp> {
+        let mut plain = BTreeMap::new(self.alloc);
+        let mut alike = true;
+        for _ in 0..50u32 {
+            alike &= self.are_alike(me, &mut plain, call_of(draw(seed)))?;
+        }
+        alike &= self.have_items(me, &plain)?;
+        for _ in 0..12u32 {
+            alike &= self.are_alike(me, &mut plain, Call::Pop)?;
+        }
+        Ok(alike && plain.is_empty())
+    }
+
+    // Whether the maps answer a call as that of std.
+    fn are_alike(
+        &self,
+        me: &mut Me<'_>,
+        plain: &mut BTreeMap<u64, u64>,
+        call: Call,
+    ) -> Result<bool, GaveUp> {
+        let maps = self.maps;
+        let told = atomically(me, &Ask { maps, call })?;
+        Ok(told == Some(expected(plain, call, 12)?))
+    }
+
+    // Whether the maps have the items of that of std: the ordered one in their order, and the other one in some order.
+    fn have_items(&self, me: &mut Me<'_>, plain: &BTreeMap<u64, u64>) -> Result<bool, GaveUp> {
+        let alloc = self.alloc;
+        let map = self.maps.ordered;
+        let sorted = atomically(me, &InOrder { map, alloc })?;
+        let map = self.maps.hashed;
+        let mut items = atomically(me, &Items { map, alloc })?;
+        if items.sort().is_err() {
+            return Err(GaveUp::Memory);
+        }
+        Ok(has_items(plain, &sorted) && has_items(plain, &items))
     }
 }
 
@@ -480,12 +505,11 @@ impl Part for BesideStd {
 
     fn play(&self, me: &mut Me<'_>, _number: usize) -> Result<bool, GaveUp> {
         let mut seed = 1;
+        let mut alike = true;
         for _ in 0..self.rounds {
-            if !self.once(me, &mut seed)? {
-                return Ok(false);
-            }
+            alike &= self.once(me, &mut seed)?;
         }
-        Ok(true)
+        Ok(alike)
     }
 }
 
@@ -505,12 +529,15 @@ fn are_as_std<R: Threads + Sync>(
     is_so(rt, memory, &part)
 }
 
+// Maps beside that of std, and a queue beside its deque.
 #[test]
-fn maps_do_what_that_of_std_does(rt: HostRuntime) -> Result<(), Fail> {
+fn structures_do_what_those_of_std_do(rt: HostRuntime) -> Result<(), Fail> {
     let alloc = rt.alloc();
     assert!(rt; are_as_std(&rt, alloc, &mut memory_by(alloc, None), 2_000)?);
+    assert!(rt; is_a_deque(&rt, alloc, &mut memory_by(alloc, None), 2_000)?);
     let by = Some(Manager::Karma);
     assert!(rt; are_as_std(&rt, alloc, &mut memory_by(alloc, by), 200)?);
+    assert!(rt; is_a_deque(&rt, alloc, &mut memory_by(alloc, by), 200)?);
     Ok(())
 }
 

@@ -1,7 +1,5 @@
 // A queue beside the one of std, and on threads.
-use crate::tests::plain::{
-    Change, Part, Trial, add, atomically, cell_of, held, is_so, memory_by, tries,
-};
+use crate::tests::plain::{Change, Part, Trial, add, atomically, cell_of, held, is_so, tries};
 use dstm_cells::{Cell, Failed, GaveUp, Manager, Me, Memory, Stop, Tx};
 use dstm_structures::Queue;
 use std::alloc::Global;
@@ -120,7 +118,7 @@ impl Part for BesideDeque {
 }
 
 // Whether a queue does what a deque does, in so many rounds.
-fn is_a_deque<R: Threads + Sync>(
+pub fn is_a_deque<R: Threads + Sync>(
     rt: &R,
     alloc: Global,
     memory: &mut Memory,
@@ -133,15 +131,6 @@ fn is_a_deque<R: Threads + Sync>(
         rounds,
     };
     is_so(rt, memory, &part)
-}
-
-#[test]
-fn a_queue_does_what_a_deque_does(rt: HostRuntime) -> Result<(), Fail> {
-    let alloc = rt.alloc();
-    assert!(rt; is_a_deque(&rt, alloc, &mut memory_by(alloc, None), 2_000)?);
-    let by = Some(Manager::Karma);
-    assert!(rt; is_a_deque(&rt, alloc, &mut memory_by(alloc, by), 200)?);
-    Ok(())
 }
 
 // Two queues one behind the other, and the sum of what has come through both. Two threads push, one moves what it finds on into

@@ -1,5 +1,5 @@
 // Maps that four threads change, and the same calls made one after the other on the map of std.
-use crate::tests::maps::{Answer, Call, InOrder, Maps, call_all, expected, maps_of};
+use crate::tests::maps::{Answer, Call, InOrder, Maps, call_all, expected, has_items, maps_of};
 use crate::tests::plain::{Change, Part, add, atomically, cell_of, memory_by, run_each};
 use crate::tests::queues::draw;
 use dstm_cells::{Cell, Failed, GaveUp, Manager, Me, Memory, Stop, Tx};
@@ -116,18 +116,6 @@ fn answers_alike(plain: &mut BTreeMap<u64, u64>, calls: &[Option<Drawn>]) -> Res
         }
     }
     Ok(true)
-}
-
-// Whether a map of std has these items and no others.
-fn has_items(plain: &BTreeMap<u64, u64>, items: &[(u64, u64)]) -> bool {
-    let mut rest = items.iter();
-    for (key, value) in plain {
-        match rest.next() {
-            Some(item) if *item == (*key, *value) => {}
-            _ => return false,
-        }
-    }
-    rest.next().is_none()
 }
 
 // Whether a map of std answers these calls alike, made in their order, and has what one thread has found then.
