@@ -134,6 +134,7 @@ const SPENT: u32 = 2;
 const OPEN: u32 = 5;
 const FULL: u32 = 9;
 const LOOKS: u32 = 1_048_576;
+const MOST_TURNS: u32 = 64;
 
 /// Why a call failed.
 #[derive(Clone, Copy, Debug, PartialEq, Eq)]
@@ -414,11 +415,13 @@ pub struct Thread<'m> {
 
 impl<'m> Thread<'m> {
     /// Makes a transaction: calls the closure, and again, until what it did has taken effect as a whole. On a panic
-    /// of the closure it is given up.
+    /// of the closure it is given up. After each attempt that came to nothing the thread gives way, twice as often as
+    /// before, at most 64 times.
     pub fn atomically<R>(
         &mut self,
         mut f: impl FnMut(&mut Tx<'_, 'm>) -> Result<R, Stop>,
     ) -> Result<R, Error> {
+        let mut turns = 1;
         loop {
             self.begin()?;
             let mut tx = Tx { thread: self };
@@ -438,6 +441,8 @@ impl<'m> Thread<'m> {
                 }
                 Err(Stop::Failed(error)) => return Err(error),
             }
+            turns = MOST_TURNS.min(2 * turns);
+            (0..turns).for_each(|_| give_way());
         }
     }
 
