@@ -1,5 +1,5 @@
 -- The state of the whole history has the current values.
-use Rattle.std.proofs.Common.{◌*◌, ◌-◌, ◌<◌, ◌==◌, ◌∙◌, ◌≡◌, ◌⊎◌, List, ap, arith, false, inl, inr, length, refl, true, ℕ}
+use Rattle.std.proofs.Common.{◌-◌, ◌<◌, ◌==◌, ◌∙◌, ◌≡◌, List, ap, arith, false, inl, inr, length, refl, ℕ}
 use Rattle.dstm_core.proofs.Base.{Core, Event, Val, at, cases_Bool, current_value, current_version, eqb-true, history, ne_eqb, value_at, version_value, will_of}
 use Rattle.dstm_opacity.proofs.Base.{Shape}
 use Rattle.dstm_core.proofs.Basic.{Names, basic}

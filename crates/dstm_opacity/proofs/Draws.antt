@@ -3,7 +3,7 @@ use Rattle.std.proofs.Common.{◌%◌, ◌&&◌, ◌*◌, ◌/◌, ◌<◌, ◌=
 use Rattle.dstm_core.proofs.Base.{AllowedAs, Core, Event, LocalState, StatusWord, after, and_parts, cases_Bool, cond_both, drawn, eq-eqb, eqb-true, given, is_draw, local, next_attempt, own_attempt, word}
 use Rattle.dstm_opacity.proofs.Base.{Begin, Commit, Draw, Drawn, Install, Kind, LookSelf, Outside, Pause, Phase, PutHigh, PutNew, Putting, Quit, Resume, Running, Shape, ToValidating, Validating}
 use Rattle.dstm_core.proofs.Basic.{own_begun}
-use Rattle.dstm_core.proofs.Columns.{Begun, Changed, Moves, StatusMove, begins, begun_still, caller_of, change, index_of, kills, moves, step}
+use Rattle.dstm_core.proofs.Columns.{Begun, Moves, StatusMove, begins, begun_still, caller_of, change, index_of, kills, moves, step}
 use Rattle.dstm_core.proofs.Static.{callers, static}
 use Rattle.dstm_core.proofs.Statuses.{PhaseHow, begin_may, begin_put, next_number, own_differs, phase_how}
 use Rattle.dstm_core.proofs.Underway.{goes_on}

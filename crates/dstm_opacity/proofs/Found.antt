@@ -1,5 +1,5 @@
 -- The values that are found of versions, and those that are put, stay.
-use Rattle.std.proofs.Common.{◌++◌, ◌-◌, ◌<◌, ◌==◌, ◌∙◌, ◌∷◌, ◌≡◌, ◌⊎◌, List, None, Option, Some, [], ap, arith, false, inl, inr, is_some, refl, sym, true, ℕ}
+use Rattle.std.proofs.Common.{◌++◌, ◌-◌, ◌<◌, ◌==◌, ◌∙◌, ◌∷◌, ◌≡◌, List, None, Option, Some, [], ap, arith, false, inl, inr, is_some, refl, sym, true, ℕ}
 use Rattle.dstm_core.proofs.Base.{AllowedAs, Core, Event, HighWord, LocalState, LowWord, Val, after, at, cases_Bool, eq-eqb, is_live, local, nat_tests, ne_eqb, new_value, or_unresolved, or_zero, place, res, version, version_by, version_value, word}
 use Rattle.dstm_opacity.proofs.Base.{Kill, Kind, LookHigh, LookNew, LookObj, LookOld, LookOwner, LookRank, LookStatus, Resolution, Shape}
 use Rattle.dstm_core.proofs.Basic.{basic}

@@ -1,5 +1,5 @@
 -- What an attempt has seen, as a value for each object that it holds.
-use Rattle.std.proofs.Common.{◌++◌, ◌==◌, ◌∙◌, ◌∷◌, ◌≡◌, ◌⊎◌, List, Option, None, Some, [], ap, false, inl, inr, refl, sym, true, ℕ}
+use Rattle.std.proofs.Common.{◌++◌, ◌==◌, ◌∙◌, ◌∷◌, ◌≡◌, List, Option, None, Some, [], ap, inl, inr, refl, sym, ℕ}
 use Rattle.dstm_core.proofs.Base.{Core, Event, LocalState, Val, cases_Bool, cond_both, eqb-true, local, old_values, read_of, read_values, seen, version_value, write_of}
 use Rattle.dstm_opacity.proofs.Base.{Read, Shape, Write}
 use Rattle.std.specs.Map.{lookup}

@@ -1,5 +1,5 @@
 -- An object that is read and then opened for writing keeps its version.
-use Rattle.std.proofs.Common.{◌&&◌, ◌++◌, ◌==◌, ◌∙◌, ◌∷◌, ◌≡◌, ◌⊎◌, Bool, List, Option, None, Some, [], ap, arith, false, inl, inr, is_some, not, refl, subst, sym, true, ℕ, is_none}
+use Rattle.std.proofs.Common.{◌&&◌, ◌++◌, ◌==◌, ◌∙◌, ◌∷◌, ◌≡◌, Bool, List, Option, None, Some, [], ap, arith, false, inl, inr, is_some, refl, subst, sym, true, ℕ, is_none}
 use Rattle.dstm_core.proofs.Base.{AllowedAs, Core, Event, Installs, LocalState, after, and_parts, cases_Bool, cond_both, eq-eqb, eqb-true, given, is_other, is_resolved, keep_resolved, local, or_unresolved, or_zero, read_of, record_resolved, res, version}
 use Rattle.dstm_opacity.proofs.Base.{Begin, Check, Install, Kill, Kind, LookHigh, LookNew, LookNumber, LookObj, LookOld, LookOwner, LookRank, LookSelf, LookStatus, Pause, Read, Release, Resolution, Resume, Shape, ToValidating}
 use Rattle.dstm_core.proofs.Basic.{basic, install_may}

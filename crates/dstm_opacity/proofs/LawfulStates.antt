@@ -1,5 +1,5 @@
 -- The state after every prefix of a history is lawful.
-use Rattle.std.proofs.Common.{◌++◌, ◌∙◌, ◌∷◌, ◌≡◌, ◌⊎◌, List, [], inl, inr, length, subst, sym, true}
+use Rattle.std.proofs.Common.{◌++◌, ◌∙◌, ◌∷◌, ◌≡◌, List, inl, inr, length, subst, sym, true}
 use Rattle.dstm_core.proofs.Base.{Core, Event, KeepsLaw, Lawful, Val, and_parts, commits_at, entry_at, entry_of, history, is_draw, local, own_attempt, will_of, with_writes}
 use Rattle.dstm_opacity.proofs.Base.{Kind, PutHigh, PutNew, Shape, Validating}
 use Rattle.dstm_core.proofs.Pasts.{core_past}

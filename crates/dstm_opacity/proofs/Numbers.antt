@@ -1,5 +1,9 @@
 -- Between two moments at which the counter of numbers is the same no attempt draws.
-use Rattle.std.proofs.Common.{◌&&◌, ◌++◌, ◌+◌, ◌<◌, ◌==◌, ◌∙◌, ◌∷◌, ◌≡◌, ◌≤◌, ◌⊎◌, Bool, List, [], ap, arith, inl, inr, refl, subst, sym, true, ℕ}
+use Rattle.std.proofs.Common.{◌&&◌, ◌++◌, ◌+◌, ◌<◌, ◌==◌, ◌∙◌, ◌∷◌, ◌≡◌, ◌≤◌, ◌⊎◌, Bool, List, [], ap, arith, false, inl, inr, refl, subst, sym, true, ℕ}
+use Rattle.std.specs.Prelude.{cond}
+use Rattle.std.proofs.lemmas.Bool.{cases_Bool}
+use Rattle.std.proofs.lemmas.List.Sums.{sum_by-cons}
+use Rattle.dstm_core.specs.Counts.{draw_count}
 use Rattle.dstm_core.proofs.Base.{AllowedAs, Core, Event, IsPastOf, NumbersWord, at, cond_both, is_draw, is_look_number, local, pass_place, word}
 use Rattle.dstm_opacity.proofs.Base.{Draw, Kind, Read, Shape}
 use Rattle.dstm_core.proofs.Basic.{Names}
@@ -36,7 +40,7 @@ no_return_past s q es o x p core h n w =
     no_return s p.later q o x (subst (Core s) (sym p.whole) core) h n (subst (λ xs. at xs o ≡ x) (sym p.whole) w)
 
 -- a draw raises the counter
-draw_up : (s : Shape) (es : List Event) (e : Event) → Core s (e ∷ es) → is_draw e.kind ≡ true →
+pub draw_up : (s : Shape) (es : List Event) (e : Event) → Core s (e ∷ es) → is_draw e.kind ≡ true →
     word s (e ∷ es) NumbersWord ≡ word s es NumbersWord + 1
 draw_up s es e core d = go e.kind d core.1.allowed
   where
@@ -65,6 +69,29 @@ draw_finds s es e core d = go e.kind d core.1.allowed
     go : (k : Kind) → k ≡ Draw → AllowedAs k s (local s es e.caller) e → e.found ≡ word s es NumbersWord
     go Draw d a = core.1.linked ∙ ap (at es) a.0
     go k d a = absurd (cc)
+
+draws_more : (e : Event) (es : List Event) → draw_count (e ∷ es) ≡ cond (is_draw e.kind) 1 0 + draw_count es
+draws_more e es = sum_by-cons (λ (e : Event). cond (is_draw e.kind) 1 0) e es
+
+-- the counter tells how many were drawn
+pub numbers_drawn : (s : Shape) (es : List Event) → Core s es → word s es NumbersWord ≡ draw_count es
+numbers_drawn s [] core = refl
+numbers_drawn s (e ∷ es) core = go (cases_Bool (is_draw e.kind)) (numbers (step s es e core)) (numbers_drawn s es core.0)
+  where
+    more : draw_count (e ∷ es) ≡ cond (is_draw e.kind) 1 0 + draw_count es
+    more = draws_more e es
+
+    go : (is_draw e.kind ≡ true) ⊎ (is_draw e.kind ≡ false) →
+        (word s (e ∷ es) NumbersWord ≡ word s es NumbersWord)
+        ⊎ ((e.kind ≡ Draw) × (word s (e ∷ es) NumbersWord ≡ word s es NumbersWord + 1)) →
+        word s es NumbersWord ≡ draw_count es → word s (e ∷ es) NumbersWord ≡ draw_count (e ∷ es)
+    go (inl d) how so_far = let rises = draw_up s es e core d in rw (more, d) (omega (arith, rises, so_far))
+    go (inr d) (inl same) so_far = rw (more, d) (omega (arith, same, so_far))
+    go (inr d) (inr how) so_far = let is = ap is_draw how.0 in absurd (cc)
+
+-- so a number is how many were drawn before it
+pub numbers_count : (s : Shape) (es : List Event) (e : Event) → Core s (e ∷ es) → e.kind ≡ Draw → e.found ≡ draw_count es
+numbers_count s es e core d = draw_finds s es e core d ∙ numbers_drawn s es core.0
 
 -- of two draws the later finds the greater number
 pub numbers_rise : (s : Shape) (between es : List Event) (d e : Event) → Core s (e ∷ (between ++ d ∷ es)) →

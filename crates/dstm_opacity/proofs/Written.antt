@@ -1,5 +1,5 @@
 -- What a caller that is in an attempt has installed.
-use Rattle.std.proofs.Common.{◌*◌, ◌++◌, ◌+◌, ◌-◌, ◌<◌, ◌==◌, ◌∙◌, ◌∷◌, ◌≡◌, ◌≢◌, ◌⊎◌, List, [], ap, arith, false, inl, inr, refl, subst, sym, true, ℕ}
+use Rattle.std.proofs.Common.{◌*◌, ◌++◌, ◌+◌, ◌-◌, ◌<◌, ◌==◌, ◌∙◌, ◌∷◌, ◌≡◌, ◌≢◌, ◌⊎◌, List, [], ap, arith, inl, inr, refl, subst, sym, ℕ}
 use Rattle.dstm_core.proofs.Base.{Core, Event, LocalState, OldWord, OwnerWord, StatusWord, after, at, cases_Bool, eqb-false, eqb-true, local, nat_tests, next_locator, or_zero, own_attempt, place, res, target, version, word}
 use Rattle.dstm_opacity.proofs.Base.{Begin, Install, Kind, Outside, Shape, Write}
 use Rattle.dstm_core.proofs.Basic.{install_may, install_put, old_stays, own_number, owner_stays}

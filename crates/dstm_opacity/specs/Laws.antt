@@ -7,6 +7,7 @@ use Rattle.std.specs.List.{Contains}
 use Rattle.dstm_model.specs.declared.value.Val.{Val}
 use Rattle.dstm_model.specs.Map.{Entry, value_at, Agrees, state_after}
 use Rattle.dstm_machines.specs.Histories as histories
+use Rattle.dstm_core.specs.Counts.{draw_count}
 use Rattle.dstm_core.specs.Events.{Event}
 use Rattle.dstm_core.specs.declared.event.Kind.TheVariants.{Begin, LookHigh, LookNew, PutHigh, PutNew, Draw, Commit}
 use Rattle.dstm_core.specs.declared.shape.Shape.{Shape}
@@ -119,6 +120,12 @@ NumbersRise {L = L} holds =
     (law : L) (shape : Shape) (start : List Val) (later between before : List Event) (early late : Event) →
     CoreRun shape start (holds law) (later ++ late ∷ (between ++ early ∷ before)) →
     early.kind ≡ Draw → late.kind ≡ Draw → early.found < late.found
+
+-- a number drawn is how many were drawn before it, by whomever
+abbrev pub NumbersCount : {L : Type 0} → (L → List Val → Type 0) → Type 0
+NumbersCount {L = L} holds =
+    (law : L) (shape : Shape) (start : List Val) (later before : List Event) (draw : Event) →
+    CoreRun shape start (holds law) (later ++ draw ∷ before) → draw.kind ≡ Draw → draw.found ≡ draw_count before
 
 -- an attempt that commits has its entry in the history, right after the prefix at its Draw
 abbrev pub CommitsStand : {L : Type 0} → (L → List Val → Type 0) → Type 0

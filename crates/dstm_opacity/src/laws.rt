@@ -9,6 +9,7 @@ ghost use Rattle.dstm_opacity.specs.Laws.{
   FoundStays,
   LawAtEveryPrefix,
   NoLocatorTwice,
+  NumbersCount,
   NumbersRise,
   PassAgrees,
   PlacesHavePrefixes,
@@ -50,6 +51,11 @@ pub fn law_at_every_prefix<L: Law>()
 /// The numbers drawn rise.
 pub fn numbers_rise<L: Law>()
     ensures { NumbersRise L.holds }
+{}
+
+/// A number drawn is how many were drawn before it.
+pub fn numbers_count<L: Law>()
+    ensures { NumbersCount L.holds }
 {}
 
 /// An attempt that commits has its entry in the history, right after the prefix at its `Draw`.

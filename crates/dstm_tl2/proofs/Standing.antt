@@ -1,10 +1,10 @@
 -- The entries of what callers have committed are the history, in the order of the numbers, and what a caller has
 -- committed stands there.
-use Rattle.std.proofs.Common.{◌<◌, ◌++◌, ◌∷◌, ◌≡◌, ◌⊎◌, List, arith, inl, inr, map, refl, reverse, subst, sym, true, ℕ}
+use Rattle.std.proofs.Common.{◌<◌, ◌++◌, ◌∷◌, ◌≡◌, List, arith, inl, inr, map, refl, reverse, subst, sym, true, ℕ}
 use Rattle.dstm_tl2.proofs.Base.{Committed, Event, LawfulRun, Run, Table, Val, and_parts, attempt_of, commits, commits_at, committed_in, done_by, entry_at, history_of, is_draw, local, objects, will_of}
 use Rattle.dstm_machines.proofs.Callers as histories
 use Rattle.dstm_machines.proofs.Callers.{falls, part_stands, stands_later}
-use Rattle.dstm_tl2.proofs.Clock.{Draws, NoDraw, clock, clock_step, clock_up}
+use Rattle.dstm_tl2.proofs.Clock.{clock, clock_step, clock_up}
 use Rattle.dstm_tl2.proofs.Legal.{committed_legal}
 use Rattle.dstm_tl2.proofs.Orders.{prefix_is_lawful}
 use Rattle.dstm_tl2.specs.Telling.{NumbersFall, Stands, StandsIn}

@@ -1,5 +1,5 @@
 -- What a run did: the entry of each attempt that commits, and the history.
-use Rattle.std.specs.Prelude.{◌≡◌, ℕ, ◌==◌, ◌&&◌, ◌||◌, Bool, true, false, List, [], ◌∷◌, map, reverse, if◌then◌else◌}
+use Rattle.std.specs.Prelude.{◌≡◌, ℕ, ◌==◌, ◌&&◌, ◌||◌, Bool, true, false, List, [], ◌∷◌, count_by, map, reverse, if◌then◌else◌}
 use Rattle.dstm_model.specs.declared.value.Val.{Val}
 use Rattle.dstm_model.specs.Map.{Entry, KeepsLaw}
 use Rattle.dstm_machines.specs.Histories.{gathered}
@@ -20,6 +20,10 @@ writes_of kind = []
 abbrev pub is_draw : Kind → Bool
 is_draw (Draw writes) = true
 is_draw kind = false
+
+-- how many numbers were drawn in a trace
+abbrev pub draw_count : List Event → ℕ
+draw_count trace = count_by (λ (event : Event). is_draw event.kind) trace
 
 abbrev pub is_sample : Kind → Bool
 is_sample Sample = true

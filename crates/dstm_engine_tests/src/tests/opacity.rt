@@ -71,6 +71,7 @@ fn assure<L: Law>()
     laws::committed_legal::<L>();
     laws::law_at_every_prefix::<L>();
     laws::numbers_rise::<L>();
+    laws::numbers_count::<L>();
     laws::commits_stand::<L>();
     laws::places_have_prefixes::<L>();
     laws::current_values::<L>();
