@@ -1,7 +1,7 @@
 -- Whether the next attempt is of a new transaction, after an attempt that was made.
-use Rattle.std.proofs.Common.{◌≡◌, ◌≢◌, ◌∙◌, ◌⊎◌, ◌==◌, ◌||◌, ◌+◌, ◌-◌, ◌<◌, ◌≤◌, Bool, true, false, List, [], ap, arith, inl, inr, refl, subst, sym, ℕ}
+use Rattle.std.proofs.Common.{◌≡◌, ◌≢◌, ◌∙◌, ◌==◌, ◌||◌, ◌+◌, ◌-◌, ◌<◌, ◌≤◌, Bool, true, false, List, [], arith, inl, inr, refl, subst, sym, ℕ}
 use Rattle.std.specs.Prelude.{Option, None, Some, IfSome, is_none}
-use Rattle.std.proofs.lemmas.Bool.{cases_Bool, ne_eqb}
+use Rattle.std.proofs.lemmas.Bool.{ne_eqb}
 use Rattle.dstm_engine.proofs.Base.{Again, Core, Event, Outside, Phase, Shape, StatusWord, StaysAt, Val, ended_as, given, is_new, local, own_attempt, word}
 use Rattle.dstm_core.proofs.Statuses.{own_status}
 use Rattle.dstm_core.proofs.Underway.{is_outside_now}

@@ -1,5 +1,5 @@
 -- What is held of an object, by its slots.
-use Rattle.std.proofs.Common.{◌&&◌, ◌++◌, ◌==◌, ◌∙◌, ◌∷◌, ◌≡◌, ◌⊎◌, Bool, List, None, [], ap, cond, false, inl, inr, map, not, refl, sym, true, ℕ}
+use Rattle.std.proofs.Common.{◌&&◌, ◌++◌, ◌==◌, ◌∙◌, ◌∷◌, ◌≡◌, Bool, List, None, [], ap, cond, false, inl, inr, map, not, refl, sym, true, ℕ}
 use Rattle.std.specs.Prelude.{IsTrue, is_some}
 use Rattle.std.proofs.lemmas.Bool.{cases_Bool}
 use Rattle.dstm_engine.proofs.Base.{ReadSlot, Val, WriteSlot, old_values, value_in}

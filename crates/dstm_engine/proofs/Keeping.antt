@@ -1,8 +1,8 @@
 -- What an attempt holds it goes on holding, as long as it lets no read go.
-use Rattle.std.proofs.Common.{◌++◌, ◌==◌, ◌∙◌, ◌∷◌, ◌≡◌, ◌≢◌, ◌⊎◌, ◌&&◌, Bool, List, None, Option, Some, [], ap, false, inl, inr, refl, sym, true, ℕ}
+use Rattle.std.proofs.Common.{◌++◌, ◌==◌, ◌∙◌, ◌∷◌, ◌≡◌, ◌≢◌, ◌&&◌, Bool, List, None, Option, Some, [], ap, false, inl, inr, refl, sym, true, ℕ}
 use Rattle.std.specs.Prelude.{if◌then◌else◌, is_none, ◌||◌}
 use Rattle.std.proofs.lemmas.Bool.{cases_Bool, cases_eq, cond_both, eq-eqb, eqb-true, ne_eqb}
-use Rattle.dstm_engine.proofs.Base.{Begin, Check, Commit, Committing, Core, Doing, Done, Draw, Due, Effort, Enrol, Event, Install, IsDue, Kind, Lcg, LocalState, LookNumber, LookSelf, MAX_MISSED, Manager, Obeys, Pause, PutHigh, PutNew, PutOld, PutOwner, Quit, Rank, Read, Reading, Rechecking, Release, Releasing, Resolution, Resume, Shape, Stamp, Step, Work, Write, Writing, after, at_first, drop_read, due_after, effort_of, events_of, given, in_resolving, install, is_open, is_outside, is_resolved, just, local, newest_of, next, next_locator, next_or_first, or_zero, read_of, record_resolved, res, state_after, version, when_resolved, write_of}
+use Rattle.dstm_engine.proofs.Base.{Begin, Core, Doing, Done, Due, Effort, Event, Install, IsDue, Kind, Lcg, LocalState, LookNumber, LookSelf, MAX_MISSED, Manager, Obeys, Pause, Quit, Read, Release, Resolution, Resume, Shape, Step, Work, Write, after, drop_read, due_after, effort_of, events_of, given, install, is_open, is_outside, is_resolved, just, local, newest_of, next_locator, next_or_first, or_zero, read_of, record_resolved, res, state_after, version, when_resolved, write_of}
 use Rattle.dstm_core.proofs.Static.{local_other, local_own}
 use Rattle.dstm_core.specs.declared.event.Kind.TheVariants.{Validating as ToValidating}
 use Rattle.dstm_opacity.proofs.Held.{version_by_open, version_held}

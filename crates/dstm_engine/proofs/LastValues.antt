@@ -1,5 +1,5 @@
 -- The values that the words of a closed table tell.
-use Rattle.std.proofs.Common.{◌*◌, ◌-◌, ◌<◌, ◌==◌, ◌∙◌, ◌≡◌, ◌≢◌, List, ap, arith, inl, inr, refl, subst, sym, true, ℕ}
+use Rattle.std.proofs.Common.{◌-◌, ◌<◌, ◌==◌, ◌∙◌, ◌≡◌, ◌≢◌, List, ap, arith, inl, inr, refl, subst, sym, true, ℕ}
 use Rattle.std.specs.Prelude.{length, slice_index}
 use Rattle.std.proofs.lemmas.Bool.{cond_both, eqb-false}
 use Rattle.std.proofs.lemmas.List.{ext_get_or}

@@ -49,3 +49,4 @@ pub mod FewSights
 pub mod Looked
 pub mod Companies
 pub mod Base
+pub mod Drawing

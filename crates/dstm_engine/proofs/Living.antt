@@ -1,5 +1,5 @@
 -- The life of a caller.
-use Rattle.std.proofs.Common.{◌≡◌, ◌∙◌, ◌⊎◌, ◌++◌, ◌∷◌, ◌==◌, true, false, List, [], None, ap, arith, inl, inr, refl, subst, sym, ℕ}
+use Rattle.std.proofs.Common.{◌≡◌, ◌∙◌, ◌++◌, ◌∷◌, ◌==◌, true, List, [], None, ap, arith, inl, inr, refl, subst, sym, ℕ}
 use Rattle.std.specs.Prelude.{Contains}
 use Rattle.std.proofs.lemmas.Bool.{cases_Bool}
 use Rattle.dstm_engine.proofs.Base.{ByCalls, Enrolling, Event, Leaving, LocalState, Shape, Task, TriesAgain, Val, events_of, started}

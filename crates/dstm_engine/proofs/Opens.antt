@@ -22,7 +22,7 @@ use Rattle.dstm_engine.proofs.Setting.{opened_slot, set_pairs_push}
 use Rattle.dstm_engine.proofs.Sights.{open_sees, sees_all, sighted_admits}
 use Rattle.dstm_engine.proofs.Slots.{slot_read, words_push, words_without}
 use Rattle.dstm_engine.proofs.Tying.{EndsHere, live_there, olds_in, reads_in, state_logged, state_then}
-use Rattle.dstm_engine.specs.Attempts.{Sighted, done}
+use Rattle.dstm_engine.specs.Attempts.{Sighted}
 use Rattle.dstm_engine.specs.Callers.{Called, entry, handed, held, is_opened, is_running, state}
 use Rattle.dstm_engine.specs.Calls.{IsTold, Performs}
 use Rattle.dstm_engine.specs.Mirror.{AtRest, Tied, called, phase_by, set_pairs, slot_old, slot_value, slot_word, with_new}

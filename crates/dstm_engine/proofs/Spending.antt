@@ -1,8 +1,8 @@
 -- A caller that is spent and begins no attempt.
-use Rattle.std.proofs.Common.{◌≡◌, ◌∙◌, ◌⊎◌, ◌∷◌, ◌&&◌, ◌+◌, Bool, true, false, not, List, [], None, ap, arith, inl, inr, refl, subst, sym}
+use Rattle.std.proofs.Common.{◌≡◌, ◌∙◌, ◌∷◌, ◌&&◌, ◌+◌, Bool, true, false, not, List, [], None, ap, arith, inl, inr, refl, subst, sym}
 use Rattle.std.specs.Prelude.{Option, if◌then◌else◌}
 use Rattle.std.proofs.lemmas.Bool.{cases_Bool, cond_both}
-use Rattle.dstm_engine.proofs.Base.{Begin, Beginning, Due, Event, IsDue, Kind, Lcg, LocalState, Obeys, Quit, Rank, Shape, Stamp, Step, Val, after, has_begun, has_ranks, has_stamps, in_beginning, is_new, is_outside, is_spent, just, local, newest_of, rises, state_after}
+use Rattle.dstm_engine.proofs.Base.{Begin, Beginning, Due, Event, IsDue, Kind, Lcg, LocalState, Obeys, Rank, Shape, Step, Val, after, has_begun, has_ranks, has_stamps, in_beginning, is_new, is_outside, is_spent, just, local, newest_of, rises, state_after}
 use Rattle.dstm_progress.proofs.OwnEvents.{after_own}
 use Rattle.dstm_order.specs.Order.{is_begin}
 use Rattle.dstm_engine.specs.Callers.{Called, shape_of, state}

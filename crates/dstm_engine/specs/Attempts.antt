@@ -14,10 +14,11 @@ use Rattle.dstm_core.specs.declared.shape.Shape.{Shape}
 use Rattle.dstm_core.specs.Events.{Event}
 use Rattle.dstm_core.specs.Histories.{CoreRun, IsSight, history_of, seen}
 use Rattle.dstm_core.specs.Runs.{local}
-use Rattle.dstm_core.specs.Traces.{IsPastOf}
+use Rattle.dstm_core.specs.Traces.{IsPastOf, events_of}
 use Rattle.dstm_core.specs.Words.{code_of}
 use Rattle.dstm_core.specs.declared.status.Status.TheVariants as status
 use Rattle.dstm_mem.specs.Memory.{AgreesWith, value_in, with_set}
+use Rattle.dstm_core.specs.Counts.{draw_count}
 use Rattle.dstm_engine.specs.Callers.{Called, begun_log, shape_of, start_of, law_of, state, held, written, handed, new_value, is_live, is_opened}
 use Rattle.dstm_engine.specs.Calls.{Performs}
 use Rattle.dstm_order.specs.Tasks.Task.{Doing}
@@ -74,6 +75,10 @@ module _ {L : Type 0} where
   -- the attempts that the caller has committed, the newest first
   abbrev pub done : Called L → List Committed
   done k = done_by (shape_of k) (start_of k) k.log k.log k.number
+
+  -- how many numbers the caller has drawn
+  abbrev pub draws : Called L → ℕ
+  draws k = draw_count (events_of k.number k.log)
 
   -- the attempt that the caller has committed last has at most so many reads
   pub record ReadsAtMost (most : ℕ) (k : Called L) : Type 0 where

@@ -5,7 +5,7 @@ ghost use Rattle.dstm_core.specs.Words.{IsValid};
 ghost use Rattle.dstm_engine.specs.Callers.{begun_log, entry, handed, held, is_live, is_opened, law_of, live_held, live_opened, new_value, seat_view, shape_of, state, written};
 ghost use Rattle.dstm_mem.specs.Memory.{HoldsWithout, SetsOnly, with_set};
 ghost use Rattle.dstm_model.specs.declared.value.Val.{Val};
-ghost use Rattle.dstm_engine.specs.Attempts.{Admits, Commits, Sighted, done, sights};
+ghost use Rattle.dstm_engine.specs.Attempts.{Admits, Commits, Sighted, done, draws, sights};
 ghost use Rattle.dstm_engine.specs.Calls.{IsUnderWay, Performs, reading};
 ghost use Rattle.dstm_engine.specs.Outcomes.{IsEnded};
 ghost use Rattle.dstm_engine.specs.Enrolled.{enrolled_as};
@@ -76,6 +76,13 @@ impl<L: Law> Caller<L> {
         self.steps.seat.tally()
     }
 
+    /// How many numbers it has drawn.
+    pub fn draws(&self) -> u64
+        ensures { result ≡ draws self.now }
+    {
+        self.steps.seat.draws()
+    }
+
     /// The last attempt is live.
     pub fn is_live(&self) -> bool
         ensures { result ≡ is_live self.now }
@@ -110,6 +117,7 @@ impl<L: Law> Caller<L> {
         requires number { number < terms.shape.callers }
         requires attempts { number * terms.shape.attempts < u32.MAX }
         requires state { state (enrolled_as terms seat number decider) ≡ record first { number = Some number } }
+        requires undrawn { draws (enrolled_as terms seat number decider) ≡ 0 }
         requires manager { decider.manager ≡ terms.shape.manager }
         requires opened { opened ≡ record { objects = terms.shape.objects; reads = []; writes = [] } }
         ensures { result ≡ enrolled_as terms seat number decider }

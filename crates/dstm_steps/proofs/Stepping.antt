@@ -3,7 +3,7 @@ use Rattle.std.proofs.Common.{◌≡◌, ◌≢◌, ℕ, ◌<◌, ◌∙◌, Lis
 use Rattle.std.proofs.lemmas.Bool.{cond_both}
 use Rattle.dstm_core.specs.Events.{Event}
 use Rattle.dstm_core.specs.declared.event.Kind.{Kind}
-use Rattle.dstm_core.specs.declared.event.Kind.TheVariants.{Enrol, Stamp, Begin, LookObj, LookStatus, LookSelf, Install, Release, Rank, PutHigh, PutNew, Quit, Validating as ToValidating, Pause, Resume}
+use Rattle.dstm_core.specs.declared.event.Kind.TheVariants.{LookObj, LookStatus, LookSelf, Rank, PutHigh, PutNew, Quit}
 use Rattle.dstm_core.specs.declared.shape.Manager.{Manager}
 use Rattle.dstm_core.specs.declared.shape.Shape.{Shape}
 use Rattle.dstm_core.specs.declared.state.Phase.TheVariants.{Running}
@@ -14,7 +14,6 @@ use Rattle.dstm_core.specs.Traces.{Access, Acts, IsPastOf}
 use Rattle.dstm_machines.specs.Traces.Access.{Load, Store, Exchange, Add}
 use Rattle.dstm_core.specs.declared.shape.Manager.TheVariants.{Polite, Karma, Polka, Greedy}
 use Rattle.dstm_core.specs.declared.status.Status.{Status}
-use Rattle.dstm_core.specs.declared.status.Status.TheVariants as status
 use Rattle.dstm_managers.specs.declared.decider.Choice.TheVariants as decision
 use Rattle.dstm_managers.specs.Choices.{DeciderState, choice, next_word, takes_word, without_word, decider_after as decided}
 use Rattle.dstm_core.specs.Words.{HasWord, code_of}

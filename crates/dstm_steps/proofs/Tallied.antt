@@ -1,12 +1,14 @@
 -- One step more of a caller is counted as what it counts says.
 use Rattle.std.proofs.Common.{◌≡◌, ◌≢◌, ◌⊎◌, ℕ, ◌+◌, ◌∙◌, List, [], ◌∷◌, ◌==◌, Bool, true, false, Some, None, refl, sym, ap, subst, arith, inl, inr, ne_eqb}
 use Rattle.std.proofs.lemmas.Bool.{cases_Bool, eq-eqb, eqb-true}
-use Rattle.std.specs.Prelude.{Option, IsSome, Result, Ok, Err, MatchResult, is_ok, ◌&&◌, if◌then◌else◌}
-use Rattle.dstm_core.specs.Counts.{is_begin}
+use Rattle.std.specs.Prelude.{Option, IsSome, Result, Ok, Err, MatchResult, cond, is_ok, ◌&&◌, if◌then◌else◌}
+use Rattle.std.proofs.lemmas.List.Sums.{sum_by-cons}
+use Rattle.dstm_core.specs.Counts.{draw_count, is_begin}
 use Rattle.atomic_table.specs.declared.shared.Seat.{Seat}
 use Rattle.dstm_core.specs.Events.{Event}
 use Rattle.dstm_core.specs.declared.event.Kind.{Kind}
-use Rattle.dstm_core.specs.declared.event.Kind.TheVariants.{Begin, Kill, LookStatus}
+use Rattle.dstm_core.specs.declared.event.Kind.TheVariants.{Begin, Draw, Kill, LookStatus}
+use Rattle.dstm_core.specs.Histories.{is_draw}
 use Rattle.dstm_core.specs.declared.shape.Shape.{Shape}
 use Rattle.dstm_core.specs.Rules.{after}
 use Rattle.dstm_core.specs.Runs.{core, local}
@@ -18,11 +20,11 @@ use Rattle.dstm_machines.proofs.Runs.{local-events_of}
 use Rattle.dstm_model.specs.declared.value.Val.{Val}
 use Rattle.dstm_order.specs.Counts.{Counts as Counted, counted, counts_after, counts_of, is_kill, no_counts, one_if}
 use Rattle.dstm_order.specs.Efforts.{is_turn}
-use Rattle.dstm_words.specs.Seats.{View, ActsBy, Home, caller_state, found_in, view_of, IsOf, made, Makes, events_by, number_or, state_by}
+use Rattle.dstm_words.specs.Seats.{View, ActsBy, Home, caller_state, found_in, view_of, IsOf, made, Makes, events_by, number_or, own_events, state_by}
 use Rattle.dstm_machines.specs.Traces.Access.{Load, Add}
 use Rattle.dstm_steps.specs.declared.counting.CallerSeat.TheInside.{Inside}
 use Rattle.dstm_steps.specs.Under.{is_exchange}
-use Rattle.dstm_steps.specs.Counting.{counts_by, counts_in, tally_of, Counts, IsUnbegun}
+use Rattle.dstm_steps.specs.Counting.{counts_by, counts_in, draws_by, tally_of, Counts, IsUnbegun}
 use Rattle.dstm_steps.specs.Ticks.{kills, stands, ticked, ticked_on}
 
 -- a caller's counts are made by its own events
@@ -155,6 +157,27 @@ exchange_kills Kill (Ok f) e same h = rw same (sym (eq-eqb f e.expected h))
 exchange_kills Kill (Err f) e same h = rw same (sym (ne_eqb f e.expected h))
 exchange_kills k a e same h = refl
 
+-- a load and an exchange draw no number
+pub load_draws : (k : Kind) (s : Shape) (l : LocalState) (e : Event) → ActsBy k Load → is_draw k ≡ false
+load_draws Draw s l e acts = let way = acts s l e in absurd (cc)
+load_draws k s l e acts = refl
+
+pub exchange_draws : (k : Kind) → is_exchange k ≡ true → is_draw k ≡ false
+exchange_draws Draw x = absurd (cc)
+exchange_draws k x = refl
+
+-- so many are counted where none was drawn
+pub none_more : (k : Kind) (count n : ℕ) → is_draw k ≡ false → count ≡ stands n → count ≡ stands (count + one_if (is_draw k))
+none_more k count n none is = rw none (omega arith)
+
+one_of : (b : Bool) (n : ℕ) → cond b 1 0 + n ≡ n + one_if b
+one_of true n = omega arith
+one_of false n = omega arith
+
+pub draws_more : (e : Event) (own : List Event) → draw_count (e ∷ own) ≡ draw_count own + one_if (is_draw e.kind)
+draws_more e own =
+    sum_by-cons (λ (e : Event). cond (is_draw e.kind) 1 0) e own ∙ one_of (is_draw e.kind) (draw_count own)
+
 -- the counts after an event, by the own events before it
 counts_next : (s : Shape) (log before : List Event) (c : ℕ) (e : Event) → e.caller ≡ c →
     events_of c log ≡ e ∷ events_of c before →
@@ -196,12 +219,18 @@ module _ {L : Type 0} (holds : L → List Val → Type 0) (home : Home L) where
       ap (λ (i : Counted). i.steps == 0) before_it ∙ counts_begun s v.log c
       ∙ ap (λ (l : LocalState). l.begun == 0) (sym state)
 
+  own_more : (v w : View L) (way : Access) (k : Kind) (p found : ℕ) → Makes holds v way k p found w →
+      draws_by w ≡ draws_by v + one_if (is_draw k)
+  own_more v w way k p found m =
+      ap (λ o. draw_count (events_by o w.log)) (ap (λ (x : View L). x.number) m.view) ∙ ap draw_count m.mine
+      ∙ draws_more (made v way k p found) (own_events v)
+
   steps_on : (old new : Inside L) (way : Access) (k : Kind) (p found : ℕ) (turn kills : Bool) →
       IsOf home old.seat → Counts old → turn ≡ is_turn k (caller_state home.terms (view_of old.seat)) →
       kills ≡ is_kill k (made (view_of old.seat) way k p found) →
       Makes holds (view_of old.seat) way k p found (view_of new.seat) →
-      new.tally ≡ ticked k turn kills old.tally → Counts new
-  steps_on old new way k p found turn kills seat counts t r m is = go v.number refl counts.caller
+      new.tally ≡ ticked k turn kills old.tally → new.draws ≡ stands (old.draws + one_if (is_draw k)) → Counts new
+  steps_on old new way k p found turn kills seat counts t r m is drawn = go v.number refl counts.caller
     where
       v : View L
       v = view_of old.seat
@@ -218,6 +247,10 @@ module _ {L : Type 0} (holds : L → List Val → Type 0) (home : Home L) where
               ticked_is k (caller_state home.terms v) (counts_by v) (made v way k p found) (begun_where v c seat.2 q),
               ← numbered v (view_of new.seat) way k p found c seat.2 q m,
             ) refl;
+        draws =
+            drawn ∙ ap (λ n. stands (n + one_if (is_draw k))) counts.draws
+            ∙ stands_more (draws_by v) (one_if (is_draw k))
+            ∙ ap stands (sym (own_more v (view_of new.seat) way k p found m));
       }
       go None q s = absurd (cc)
 
@@ -227,18 +260,19 @@ module _ {L : Type 0} (holds : L → List Val → Type 0) (home : Home L) where
       turn ≡ is_turn k (caller_state home.terms (view_of was)) →
       kills ≡ is_kill k (made (view_of old.seat) way k p found) →
       Makes holds (view_of old.seat) way k p found (view_of new.seat) → new.tally ≡ ticked k turn kills old.tally →
-      Counts new
-  step_counts old new was way k p found turn kills same seat counts t r m is =
+      new.draws ≡ stands (old.draws + one_if (is_draw k)) → Counts new
+  step_counts old new was way k p found turn kills same seat counts t r m is drawn =
       steps_on old new way k p found turn kills (subst (IsOf home) (sym same) seat) counts
-      (t ∙ ap (λ s. is_turn k (caller_state home.terms (view_of s))) (sym same)) r m is
+      (t ∙ ap (λ s. is_turn k (caller_state home.terms (view_of s))) (sym same)) r m is drawn
 
--- the seat of a caller that has begun no attempt counts nothing
-pub unbegun_counts : {L : Type 0} (s : Inside L) → IsUnbegun (view_of s.seat) →
-    s.tally ≡ record { steps = 0; turns = 0; kills = 0 } → Counts s
-unbegun_counts {L = L} s u is = let v : View L = view_of s.seat in record {
+-- the seat of a caller that has begun no attempt, and has drawn no number, counts nothing
+pub unbegun_counts : {L : Type 0} (s : Inside L) → IsUnbegun (view_of s.seat) → draws_by (view_of s.seat) ≡ 0 →
+    s.tally ≡ record { steps = 0; turns = 0; kills = 0 } → s.draws ≡ 0 → Counts s
+unbegun_counts {L = L} s u undrawn is none = let v : View L = view_of s.seat in record {
   caller = rw u.caller refl;
   counts = is
       ∙ ap tally_of (sym
       (ap (λ o. counts_in o v.number v.log) u.told ∙ ap (λ o. counts_in (Some u.terms) o v.log) u.caller
       ∙ unbegun_none u.terms.shape v.log u.number u.unbegun));
+  draws = rw undrawn none;
 }

@@ -93,7 +93,7 @@ impl Counter {
 }
 
 // A count, with one more where there is one.
-fn one_more(count: u64, more: bool) -> u64
+pub(crate) fn one_more(count: u64, more: bool) -> u64
     ensures { result ≡ stands (count + one_if more) }
 {
     if more { count.saturating_add(1) } else { count }

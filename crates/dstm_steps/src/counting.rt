@@ -5,11 +5,12 @@ ghost use Rattle.dstm_order.specs.Counts.{is_kill};
 ghost use Rattle.dstm_order.specs.Efforts.{is_turn};
 ghost use Rattle.dstm_machines.specs.Traces.Access.{Load, Store, Exchange, Add};
 ghost use Rattle.dstm_words.specs.Seats.{ActsBy, caller_state, found_in, view_of, IsOf, MayMake, StoresLawfully, Makes};
-ghost use Rattle.dstm_steps.specs.Counting.{counts_by, tally_of, IsUnbegun};
-ghost use Rattle.dstm_steps.specs.Ticks.{kills};
+ghost use Rattle.dstm_core.specs.Histories.{is_draw};
+ghost use Rattle.dstm_steps.specs.Counting.{counts_by, draws_by, tally_of, IsUnbegun};
+ghost use Rattle.dstm_steps.specs.Ticks.{kills, stands};
 ghost use Rattle.dstm_steps.specs.Under.{is_exchange};
 
-use crate::counter::Counter;
+use crate::counter::{Counter, one_more};
 use dstm_core::Kind;
 use dstm_model::Law;
 use dstm_words::{CoreSeat, Words};
@@ -23,11 +24,13 @@ pub struct Tally {
     pub kills: u64,
 }
 
-/// The seat of a caller, which counts the caller's steps since the Begin of its last attempt.
+/// The seat of a caller, which counts the caller's steps since the Begin of its last attempt, and the numbers that it has
+/// drawn.
 #[derive(Drop)]
 pub struct CallerSeat<L: Law> {
     seat: CoreSeat<L>,
     tally: Counter,
+    draws: u64,
 }
 
 impl<L: Law> Model for CallerSeat<L> {
@@ -47,11 +50,13 @@ impl<L: Law> CallerSeat<L> {
     /// The seat of a caller that has begun no attempt.
     pub fn make(seat: CoreSeat<L>) -> CallerSeat<L>
         requires unbegun { IsUnbegun (view_of seat) }
+        requires undrawn { draws_by (view_of seat) ≡ 0 }
         ensures { result ≡ seat }
     {
         CallerSeat {
             seat,
             tally: Counter::idle(),
+            draws: 0,
         }
     }
 
@@ -60,6 +65,13 @@ impl<L: Law> CallerSeat<L> {
         ensures { result ≡ tally_of (counts_by (view_of self.now)) }
     {
         self.tally.tally()
+    }
+
+    /// How many numbers it has drawn. The count stands at the greatest u64.
+    pub fn draws(&self) -> u64
+        ensures { result ≡ stands (draws_by (view_of self.now)) }
+    {
+        self.draws
     }
 
     /// The seat as the words know it.
@@ -90,6 +102,7 @@ impl<L: Law> CallerSeat<L> {
         requires lawful { StoresLawfully L.holds words.now.terms (view_of self.old) kind place put }
         requires no_turn { is_turn kind (caller_state words.now.terms (view_of self.old)) ≡ false }
         requires no_kill { (event : Event) → is_kill kind event ≡ false }
+        requires no_draw { is_draw kind ≡ false }
         ensures seat { IsOf words.now self.new }
         ensures event { (found : ℕ)
             × Makes L.holds (view_of self.old) (Store put) kind place found (view_of self.new) }
@@ -131,6 +144,7 @@ impl<L: Law> CallerSeat<L> {
     {
         let found = words.add(&mut self.seat, kind, place);
         self.tally.tick(kind, false, false);
+        self.draws = one_more(self.draws, draws(kind));
         found
     }
 }
@@ -139,4 +153,10 @@ fn kills(kind: Kind) -> bool
     ensures { result ≡ kills kind }
 {
     matches!(kind, Kind::Kill)
+}
+
+fn draws(kind: Kind) -> bool
+    ensures { result ≡ is_draw kind }
+{
+    matches!(kind, Kind::Draw)
 }

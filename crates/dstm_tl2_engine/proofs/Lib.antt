@@ -24,3 +24,4 @@ pub mod Made
 pub mod Working
 pub mod Sends
 pub mod Base
+pub mod Drawing

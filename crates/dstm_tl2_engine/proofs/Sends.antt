@@ -18,7 +18,7 @@ inside_send Y law =
     declared_send (Inside.the_type Y law) (
       terms_send Y,
       (
-        Steps.the_send Y,
+        Steps.the_send Y law,
         (
           search sendable depth 20,
           (search sendable depth 20, (search sendable depth 20, (search sendable depth 20, (Opened.the_send, tt)))),

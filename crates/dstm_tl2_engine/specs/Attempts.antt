@@ -3,7 +3,8 @@ use Rattle.std.specs.Prelude.{◌≡◌, ℕ, Bool, true, false, List, [], ◌�
 use Rattle.dstm_mem.specs.Memory.{AgreesWith, value_in, with_set}
 use Rattle.dstm_model.specs.declared.value.Val.{Val}
 use Rattle.dstm_model.specs.Map.{Agrees, Entry, state_after, with_writes}
-use Rattle.dstm_tl2.specs.Histories.{LawfulRun, history_of, prefix_at, sample_place}
+use Rattle.dstm_machines.specs.Traces.{events_of}
+use Rattle.dstm_tl2.specs.Histories.{LawfulRun, draw_count, history_of, prefix_at, sample_place}
 use Rattle.dstm_tl2.specs.Laws.{IsSeen}
 use Rattle.dstm_tl2.specs.Rules.{Event}
 use Rattle.dstm_tl2.specs.State.{is_valid}
@@ -17,6 +18,10 @@ use Rattle.dstm_tl2_order.specs.Tasks.Work.{Committing}
 module _ {L : Type 0} where
   abbrev pub done : TlCalled L → List Committed
   done k = done_by (table_of_caller k) k.log k.number
+
+  -- how many numbers the caller has drawn
+  abbrev pub draws : TlCalled L → ℕ
+  draws k = draw_count (events_of k.number k.log)
 
   -- What the last attempt has read are values of one moment: those of the state after the entries whose Draw stands
   -- before its Sample. That state is lawful, and it has every entry whose last good Check stands before that Sample.

@@ -3,7 +3,7 @@ ghost use Rattle.dstm_mem.specs.Memory.{SetsOnly};
 ghost use Rattle.dstm_model.specs.declared.value.Val.{Val};
 ghost use Rattle.dstm_tl2.specs.Sharing.{IsRunOf};
 ghost use Rattle.dstm_tl2.specs.State.{first};
-ghost use Rattle.dstm_tl2_engine.specs.Attempts.{Commits, Seen, done};
+ghost use Rattle.dstm_tl2_engine.specs.Attempts.{Commits, Seen, done, draws};
 ghost use Rattle.dstm_tl2_engine.specs.Callers.{handed, held, is_live, is_opened, objects_of, seat_view, state, written};
 ghost use Rattle.dstm_tl2_engine.specs.Calls.{IsMade, IsTold, Performs};
 ghost use Rattle.dstm_tl2_steps.specs.Reads.{AtRest};
@@ -21,7 +21,7 @@ use crate::stm::TlStm;
 use dstm_model::{Law, Val};
 use dstm_tl2::Terms;
 use dstm_tl2_order::TlAgain;
-use dstm_tl2_steps::{Opened, Places, Steps};
+use dstm_tl2_steps::{CallerSeat, Opened, Places, Steps};
 use dstm_tl2_words::Tl2Seat;
 use std::marker::{Brand, Model};
 
@@ -64,11 +64,12 @@ impl<L: Law> TlCaller<L> {
         requires objects { objects_of (enrolled_as terms seat number) ≡ objects }
         requires number { number < terms.callers }
         requires state { state (enrolled_as terms seat number) ≡ record first { number = Some number } }
+        requires undrawn { draws (enrolled_as terms seat number) ≡ 0 }
         requires opened { opened ≡ record { objects = objects; reads = []; writes = []; set = [] } }
         ensures { result ≡ enrolled_as terms seat number }
     {
         let steps = Steps {
-            seat,
+            seat: CallerSeat::make(seat),
             places: Places::of(objects),
             sample: 0,
         };
@@ -95,6 +96,13 @@ impl<L: Law> TlCaller<L> {
         ensures { result ≡ (state self.now).sample }
     {
         self.steps.sample
+    }
+
+    /// How many numbers it has drawn.
+    pub fn draws(&self) -> u64
+        ensures { result ≡ draws self.now }
+    {
+        self.steps.seat.draws()
     }
 
     // What is known of its last attempt. It takes no step.
@@ -314,6 +322,6 @@ impl<L: Law> TlCaller<L> {
         ensures slots { result.me.1 ≡ [] }
         ensures table { result.table_id ≡ self.home.table }
     {
-        self.steps.seat
+        self.steps.seat.into_seat()
     }
 }

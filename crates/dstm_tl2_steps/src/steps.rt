@@ -15,10 +15,11 @@ ghost use Rattle.dstm_tl2_order.specs.Order.{draws, locks};
 ghost use Rattle.dstm_tl2_order.specs.Order.Due.{FreeAs, Just, LookAt, PutHigh, PutLow};
 ghost use Rattle.dstm_tl2_steps.specs.Under.{made_by, now, Loaded, Stored, Under, Went};
 
+use crate::counting::CallerSeat;
 use crate::places::Places;
 use dstm_model::{Law, Val};
 use dstm_tl2::{Kind, Writes};
-use dstm_tl2_words::{Tl2Seat, Words};
+use dstm_tl2_words::Words;
 use std::marker::Brand;
 use std::snapshot::Snapshot;
 
@@ -39,7 +40,7 @@ impl InCall for Brand {
 /// The steps of a caller.
 #[derive(Drop)]
 pub struct Steps<L: Law> {
-    pub seat: Tl2Seat<L>,
+    pub seat: CallerSeat<L>,
     pub places: Places,
     /// What the last attempt found of the clock as it began.
     pub sample: u64,
@@ -58,7 +59,7 @@ impl<L: Law> Steps<L> {
             ≡ made_by B.began Load Sample (place (table_of words.now.terms) ClockWord) self.new.sample ∷ before) }
     {
         let clock = self.places.clock();
-        self.sample = words.load(&mut self.seat, Kind::Sample, clock);
+        self.sample = self.seat.load(words, Kind::Sample, clock);
     }
 
     /// Looks at the lock of an object that was not read.
@@ -71,7 +72,7 @@ impl<L: Law> Steps<L> {
         ensures { Loaded L.holds words.now B.began self.old self.new LookLock (LockWord o) result }
     {
         let lock = self.places.lock(o);
-        words.load(&mut self.seat, Kind::LookLock, lock)
+        self.seat.load(words, Kind::LookLock, lock)
     }
 
     /// Looks at the low part of its value.
@@ -85,7 +86,7 @@ impl<L: Law> Steps<L> {
         ensures { Loaded L.holds words.now B.began self.old self.new LookLow (LowWord o) result }
     {
         let low = self.places.low(o);
-        words.load(&mut self.seat, Kind::LookLow, low)
+        self.seat.load(words, Kind::LookLow, low)
     }
 
     /// Looks at the high part of its value.
@@ -99,7 +100,7 @@ impl<L: Law> Steps<L> {
         ensures { Loaded L.holds words.now B.began self.old self.new LookHigh (HighWord o) result }
     {
         let high = self.places.high(o);
-        words.load(&mut self.seat, Kind::LookHigh, high)
+        self.seat.load(words, Kind::LookHigh, high)
     }
 
     /// Looks at its lock again. The read is recorded where that has not changed.
@@ -112,7 +113,7 @@ impl<L: Law> Steps<L> {
         ensures { Loaded L.holds words.now B.began self.old self.new LookAgain (LockWord o) result }
     {
         let lock = self.places.lock(o);
-        words.load(&mut self.seat, Kind::LookAgain, lock)
+        self.seat.load(words, Kind::LookAgain, lock)
     }
 
     /// Locks the next object written, which was read with this word.
@@ -139,13 +140,8 @@ impl<L: Law> Steps<L> {
     {
         let lock = self.places.lock(o);
         let told = Writes::of(writes);
-        words.exchange(
-            &mut self.seat,
-            Kind::Lock(Snapshot::of(&told)),
-            lock,
-            word,
-            word + 1,
-        )
+        self.seat
+            .raise(words, Kind::Lock(Snapshot::of(&told)), lock, word)
     }
 
     /// Draws the number that places the attempt in the history.
@@ -164,7 +160,7 @@ impl<L: Law> Steps<L> {
     {
         let clock = self.places.clock();
         let told = Writes::of(writes);
-        words.add(&mut self.seat, Kind::Draw(Snapshot::of(&told)), clock)
+        self.seat.add(words, Kind::Draw(Snapshot::of(&told)), clock)
     }
 
     /// Checks the next read of an object that is not written.
@@ -178,7 +174,7 @@ impl<L: Law> Steps<L> {
         ensures { Loaded L.holds words.now B.began self.old self.new Check (LockWord o) result }
     {
         let lock = self.places.lock(o);
-        words.load(&mut self.seat, Kind::Check, lock)
+        self.seat.load(words, Kind::Check, lock)
     }
 
     /// Writes the low part of the new value of an object that is locked.
@@ -191,7 +187,7 @@ impl<L: Law> Steps<L> {
         ensures { Stored L.holds words.now B.began self.old self.new WriteLow (LowWord o) low }
     {
         let place = self.places.low(o);
-        words.store(&mut self.seat, Kind::WriteLow, place, low);
+        self.seat.store(words, Kind::WriteLow, place, low);
     }
 
     /// Writes the high part.
@@ -204,7 +200,7 @@ impl<L: Law> Steps<L> {
         ensures { Stored L.holds words.now B.began self.old self.new WriteHigh (HighWord o) high }
     {
         let place = self.places.high(o);
-        words.store(&mut self.seat, Kind::WriteHigh, place, high);
+        self.seat.store(words, Kind::WriteHigh, place, high);
     }
 
     /// Unlocks an object with this word: its new version, or the recorded word. What the call answers stays.
@@ -219,6 +215,6 @@ impl<L: Law> Steps<L> {
         ensures rest { self.new ≡ record self.old { seat = self.new.seat } }
     {
         let lock = self.places.lock(o);
-        words.store(&mut self.seat, Kind::Unlock, lock, word);
+        self.seat.store(words, Kind::Unlock, lock, word);
     }
 }

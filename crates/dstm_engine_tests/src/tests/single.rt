@@ -74,5 +74,6 @@ fn keeps_what_commits(stm: &Stm<AnyLaw>, caller: &mut Caller<AnyLaw>) -> bool
 fn one_caller_reads_and_sets(rt: HostRuntime) -> Result<(), Fail> {
     let mut pair = three_objects(rt.alloc(), false)?;
     assert!(rt; keeps_what_commits(&pair.stm, &mut pair.one));
+    assert!(rt; pair.one.draws() == 3);
     Ok(())
 }

@@ -221,9 +221,11 @@ fn cross_and_again(
     Some((met, alone))
 }
 
-fn crossed(alloc: Global) -> Result<Option<(Crossed, Option<Done>)>, Fail> {
+// The same, and how many numbers each has drawn.
+fn crossed(alloc: Global) -> Result<(Option<(Crossed, Option<Done>)>, [u64; 2]), Fail> {
     let mut pair = two_callers(alloc, 2)?;
-    Ok(cross_and_again(&pair.stm, &mut pair.one, &mut pair.two))
+    let met = cross_and_again(&pair.stm, &mut pair.one, &mut pair.two);
+    Ok((met, [pair.one.draws(), pair.two.draws()]))
 }
 
 // The second of a crossed pair had drawn 1.
@@ -233,7 +235,7 @@ fn of_a_crossed_pair_the_first_commits(rt: HostRuntime) -> Result<(), Fail> {
     let zero = Some(Ok(low(0)));
     let commits = [Some(Ok(0)), Some(Err(TlAgain::Changed(1)))];
     let alone = Some(([zero, zero, None, None], Some(Ok(2))));
-    assert!(rt; met == Some((([zero, zero, zero, zero], commits), alone)));
+    assert!(rt; met == (Some((([zero, zero, zero, zero], commits), alone)), [1, 2]));
     Ok(())
 }
 
@@ -501,6 +503,7 @@ fn a_commit_that_fails_gives_its_locks_back(rt: HostRuntime) -> Result<(), Fail>
     let mut pair = two_callers(rt.alloc(), 2)?;
     let seven = Val { low: 7, high: 8 };
     assert!(rt; gives_locks_back(&pair.stm, &mut pair.one, &mut pair.two, seven));
+    assert!(rt; [pair.one.draws(), pair.two.draws()] == [0, 1]);
     let values = close_both(rt.alloc(), pair)?;
     assert!(rt; values.as_slice() == [low(0), seven].as_slice());
     Ok(())

@@ -1,6 +1,6 @@
 use Rattle.std.proofs.Common.{◌++◌, ◌∙◌, ◌∷◌, [], ap, map, refl, sym}
 use Rattle.std.proofs.lemmas.List.{map-append}
-use Rattle.dstm_engine.proofs.Base.{Home, doing, now, value_at, words_of}
+use Rattle.dstm_engine.proofs.Base.{Home, now, value_at, words_of}
 use Rattle.dstm_steps.proofs.FoundValues.{has_value}
 use Rattle.dstm_steps.specs.FoundValues.{found_value}
 use Rattle.dstm_engine.proofs.OpenStates.{adds_read, found_still, last_read, object_still, owed_read, record_read}

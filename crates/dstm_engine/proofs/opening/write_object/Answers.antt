@@ -1,7 +1,7 @@
 use Rattle.std.proofs.Common.{◌++◌, ◌∙◌, ◌∷◌, None, [], ap, map, refl, sym}
 use Rattle.dstm_steps.specs.FoundValues.{found_value}
 use Rattle.std.specs.Prelude.{option_map}
-use Rattle.dstm_engine.proofs.Base.{Home, ReadSlot, doing, now, value_at, words_of}
+use Rattle.dstm_engine.proofs.Base.{Home, ReadSlot, now, value_at, words_of}
 use Rattle.dstm_engine.proofs.OpenStates.{acquired_held, acquired_reads, acquired_runs, adds_write, last_write}
 use Rattle.dstm_engine.proofs.HeldStill.{version_goes}
 use Rattle.dstm_engine.proofs.Setting.{set_pairs_push}

@@ -11,4 +11,5 @@ make-requires g c = record {
     caller = ap (λ (v : View _). v.number) c.requires.view;
     unbegun = ap (λ (s : LocalState). s.begun) c.requires.state;
   };
+  undrawn = rw c.requires.view c.requires.undrawn;
 }

@@ -1,7 +1,7 @@
 use Rattle.std.proofs.Common.{◌&&◌, ◌∙◌, ◌≡◌, Option, ap, false, not, sym, true}
 use Rattle.std.specs.Prelude.{is_some}
 use Rattle.dstm_engine.proofs.Base.{ReadSlot, WriteSlot}
-use Rattle.dstm_engine.proofs.Holding.{both_there, is_read_dead, is_read_there}
+use Rattle.dstm_engine.proofs.Holding.{both_there, is_read_there}
 use Rattle.dstm_engine.specs.Callers.{Called, live_held, live_opened}
 use Rattle.dstm_engine.specs.Opened.{read_slot, write_slot}
 use Rattle.dstm_engine.proofs.caller.Caller.is_read.Given.{Over}

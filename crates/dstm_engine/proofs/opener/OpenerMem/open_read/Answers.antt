@@ -1,7 +1,7 @@
 use Rattle.std.proofs.Common.{◌≡◌, ◌∙◌, ◌&&◌, ℕ, Bool, Ok, Err, ap, sym, true}
 use Rattle.std.specs.Prelude.{OnOk, Result}
 use Rattle.dstm_engine.proofs.Base.{Again, Val}
-use Rattle.dstm_engine.proofs.Handing.{finds, sets_none}
+use Rattle.dstm_engine.proofs.Handing.{finds}
 use Rattle.dstm_engine.specs.Callers.{Called, is_live, is_opened, live_opened}
 use Rattle.dstm_engine.specs.Transactions.{TxPlace, is_ok}
 use Rattle.dstm_engine.proofs.LettingGo.{read_keeps, same_both}

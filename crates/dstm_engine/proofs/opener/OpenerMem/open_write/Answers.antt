@@ -1,5 +1,5 @@
 use Rattle.std.proofs.Common.{ℕ, ap}
-use Rattle.dstm_engine.proofs.Handing.{finds, sets_none}
+use Rattle.dstm_engine.proofs.Handing.{finds}
 use Rattle.dstm_engine.specs.Transactions.{TxPlace}
 use Rattle.dstm_engine.proofs.LettingGo.{write_keeps, same_both}
 use Rattle.dstm_engine.proofs.Looked.{few_still, write_few}

@@ -1,8 +1,4 @@
-use Rattle.std.proofs.Common.{◌+◌, ◌≤◌, subst, sym}
 use Rattle.dstm_mem.proofs.WithSet.{with_set-set}
-use Rattle.dstm_engine.specs.Attempts.{looks, sights}
-use Rattle.dstm_engine.specs.Callers.{Called}
-use Rattle.dstm_engine.proofs.Made.{set_admits}
 use Rattle.dstm_engine.proofs.opener.OpenerMem.set.Goals as goal
 
 pub returns-clause-puts : goal.returns-clause-puts

@@ -1,4 +1,4 @@
-use Rattle.dstm_engine.proofs.Handing.{finds, sets_none}
+use Rattle.dstm_engine.proofs.Handing.{finds}
 use Rattle.dstm_engine.proofs.tx.TxMem.open_write.Goals as goal
 
 pub returns-clause-found : goal.returns-clause-found

@@ -2,7 +2,7 @@ use Rattle.std.proofs.Common.{◌∙◌, ◌≡◌, None, ap, subst, sym}
 use Rattle.std.specs.Option.{option_or}
 use Rattle.dstm_tl2_engine.proofs.Opens.{handed_held, hands, held_opened, none_some, unhanded_unheld, unset_unheld}
 use Rattle.dstm_tl2_engine.specs.Attempts.{Seen}
-use Rattle.dstm_tl2_engine.specs.Callers.{TlCalled, handed, held, written}
+use Rattle.dstm_tl2_engine.specs.Callers.{TlCalled, held, written}
 use Rattle.dstm_tl2_engine.proofs.caller.TlCaller.open_read.Given.{Over}
 use Rattle.dstm_tl2_engine.proofs.caller.TlCaller.open_read.Goals.{After-value}
 use Rattle.dstm_tl2_engine.proofs.caller.TlCaller.open_read.Goals as goal

@@ -1,4 +1,4 @@
-use Rattle.std.proofs.Common.{◌+◌, ◌++◌, ◌<◌, ◌∷◌, ◌≡◌, [], ap, arith, false, length, length-append, refl, sym, ℕ, length-set}
+use Rattle.std.proofs.Common.{◌++◌, ◌<◌, ◌∷◌, ◌≡◌, [], ap, arith, false, length, length-append, refl, sym, ℕ, length-set}
 use Rattle.dstm_mem.proofs.Slots.{beside, place_is, pushed, room_for}
 use Rattle.dstm_mem.specs.declared.places.Place.{Place}
 use Rattle.dstm_model.specs.declared.value.Val.{Val}

@@ -1,4 +1,4 @@
-use Rattle.std.proofs.Common.{◌<◌, ◌≤◌, ◌+◌, ◌∙◌, length, ap, arith, sym, true, false}
+use Rattle.std.proofs.Common.{◌<◌, ◌≤◌, ◌∙◌, length, ap, arith, sym, true, false}
 use Rattle.dstm_tl2_steps.specs.Under.{now}
 use Rattle.dstm_tl2_steps.proofs.Checking.{checked_all, checked_none, checked_one, next_is, slot_is, slot_read_is, some_number}
 use Rattle.dstm_tl2_steps.proofs.steps.Steps.check_all.Goals as goal

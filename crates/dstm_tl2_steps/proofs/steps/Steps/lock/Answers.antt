@@ -10,14 +10,14 @@ use Rattle.dstm_tl2_steps.proofs.Bounds.{recorded_below}
 use Rattle.dstm_tl2_steps.proofs.Stepping.{is_something, lock_allowed, went_on}
 use Rattle.dstm_tl2_steps.proofs.steps.Steps.lock.Goals as goal
 
-pub overflow_add-word : goal.overflow_add-word
-overflow_add-word g c =
+pub raise-requires-clause-fits : goal.raise-requires-clause-fits
+raise-requires-clause-fits g c =
     let below : recorded c.args.o (now c.args.words.now c.args.self.now).reads < 2 ^ 62 =
     recorded_below c.requires.under c.args.o (is_something _ c.requires.read) in
     let word = c.requires.word in omega arith
 
-pub exchange-requires-clause-allowed : goal.exchange-requires-clause-allowed
-exchange-requires-clause-allowed g c = λ found below.
+pub raise-requires-clause-allowed : goal.raise-requires-clause-allowed
+raise-requires-clause-allowed g c = λ found below.
     let told : Lock c.of.result ≡ locks c.args.writes.now.items = ap locks (c.of.ensures ∙ c.of-told.ensures) in
     lock_allowed (table_of c.args.words.now.terms) (now c.args.words.now c.args.self.now) c.args.writes.now.items
     (number_or (view_of c.args.self.now.seat).number found)
@@ -27,5 +27,5 @@ exchange-requires-clause-allowed g c = λ found below.
 
 pub returns-clause-went : goal.returns-clause-went
 returns-clause-went g c =
-    went_on (Exchange c.args.word (c.args.word + 1)) c.requires.under c.exchange.ensures.event
-    (ap locks (c.of.ensures ∙ c.of-told.ensures)) c.lock-lock.ensures c.exchange.ensures.seat refl refl refl refl
+    went_on (Exchange c.args.word (c.args.word + 1)) c.requires.under c.raise.ensures.event
+    (ap locks (c.of.ensures ∙ c.of-told.ensures)) c.lock-lock.ensures c.raise.ensures.seat refl refl refl refl
