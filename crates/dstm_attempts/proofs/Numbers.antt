@@ -1,8 +1,8 @@
 -- The numbers under which a caller has committed.
-use Rattle.std.proofs.Common.{◌≡◌, ◌∙◌, ◌∷◌, ◌<◌, ◌≤◌, ◌+◌, ◌==◌, [], ℕ, Bool, List, Option, None, Some, ap, arith, cond, false, refl, subst, sym, true}
+use Rattle.std.proofs.Common.{◌≡◌, ◌∙◌, ◌∷◌, ◌<◌, ◌≤◌, ◌+◌, ◌==◌, [], ℕ, Bool, List, Option, Some, ap, arith, cond, false, refl, subst, sym, true}
 use Rattle.std.specs.Prelude.{All}
 use Rattle.std.specs.List.{AllByRecursion}
-use Rattle.std.proofs.lemmas.List.Elements.{All-from_recursion, All-nil}
+use Rattle.std.proofs.lemmas.List.Elements.{All-from_recursion}
 use Rattle.dstm_model.specs.Answers.{AreBelow, Committed, NumbersFall, by_caller}
 use Rattle.dstm_model.specs.declared.value.Val.{Val}
 use Rattle.dstm_words.specs.Seats as words
@@ -94,10 +94,3 @@ module _ {L : Type 0} where
     enrolled_none (founder.Tl2 f) (founder.Tl2 g) seed (Tl2 k) enrols =
         (tl2_new f g k enrols (home_there (founder.Tl2 f)) seed refl).none_done
     enrolled_none f g seed k enrols = absurd enrols
-
-  -- one that has committed nothing has committed up to no number
-  pub up_to_none : (k : Caller L) → done k ≡ [] → CommitsUpTo None k
-  up_to_none k none = record {
-    is = ap newest_of (sym none);
-    up_to = subst (All (λ (attempt : Committed). attempt.number < 0)) (sym none) (All-nil _);
-  }

@@ -1,6 +1,6 @@
 ghost use Rattle.std.specs.Prelude.{◌≡◌, ◌≢◌, ◌<◌, ◌≤◌, List, [], None, true, false, IfErr, IfOk, IfSome, Ok, OnOk};
 ghost use Rattle.dstm_model.specs.declared.value.Val.{Val};
-ghost use Rattle.dstm_tables.specs.Callers.{begun, done, home_of};
+ghost use Rattle.dstm_tables.specs.Callers.{begun, done, draws, home_of};
 ghost use Rattle.dstm_attempts.specs.Attempts.{AddsNothing, Begins, BeginsNone, CommitsUpTo, Finds, Flags, IsAbandoned, IsClosed, IsLost, IsNotOpened, IsOpened, IsQuit, IsSpent, IsStill, Keeps, LeavesLawful, LooksChanged, LooksOnce, LooksSame, LooksSpent, MayBegin, Opens, Puts, Refuses, StoodTogether, TakesEffect, TakesUnder, attempts_of, clock, is_under_way, objects_of, renewed};
 ghost use Rattle.dstm_attempts.specs.Waiting.{FindsChange, HasNoRoom, IsSpentLettingGo, LetsGo, RenewsNothing};
 ghost use Rattle.dstm_attempts.specs.declared.error.Look.TheVariants as look;
@@ -53,6 +53,16 @@ impl<L: Law> Attempts<L> {
         ensures up_to { CommitsUpTo result self.now.caller }
     {
         self.newest
+    }
+
+    /// How many numbers the caller has drawn: one for each commit that came so far, whether it has taken effect or not.
+    pub fn draws(&self) -> u64
+        ensures { result ≡ draws self.now.caller }
+    {
+        match &self.caller {
+            Caller::Dstm(caller) => caller.draws(),
+            Caller::Tl2(caller) => caller.draws(),
+        }
     }
 
     /// An attempt is under way. By TL2 it is not told where the caller has none left.

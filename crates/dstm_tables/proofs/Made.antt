@@ -1,7 +1,6 @@
 -- What an attempt leaves by DSTM, from the clauses of the engine's calls.
 use Rattle.std.proofs.Common.{◌≡◌, ◌∙◌, ◌+◌, ◌-◌, ◌*◌, ◌<◌, ◌≤◌, ◌++◌, ℕ, Bool, List, [], Some, true, sym, ap, subst, arith, is_some, eq-eqb, eqb-true}
 use Rattle.std.specs.Prelude.{IfSome, Option}
-use Rattle.dstm_model.specs.Answers.{Committed}
 use Rattle.dstm_model.specs.declared.value.Val.{Val}
 use Rattle.dstm_core.specs.Events.{Event}
 use Rattle.dstm_core.specs.Runs.{local}

@@ -2,11 +2,13 @@
 use Rattle.std.specs.Prelude.{◌≡◌, ℕ, false, List, []}
 use Rattle.dstm_model.specs.declared.value.Val.{Val}
 use Rattle.dstm_model.specs.Answers.{Committed}
+use Rattle.dstm_engine.specs.Attempts as dstm_attempts
 use Rattle.dstm_engine.specs.Callers as dstm
 use Rattle.dstm_managers.specs.Choices.{started}
 use Rattle.dstm_engine.specs.Makes.{Makes}
 use Rattle.dstm_progress.specs.Lives.{TriesByShape}
 use Rattle.dstm_order.specs.Retries.{is_new}
+use Rattle.dstm_tl2_engine.specs.Attempts as tl2_attempts
 use Rattle.dstm_tl2_engine.specs.Callers as tl2
 use Rattle.dstm_tl2_engine.specs.Makes as tl2_makes
 use Rattle.dstm_tl2_order.specs.Made.{LocksItsWrites}
@@ -71,6 +73,11 @@ module _ {L : Type 0} where
 
   abbrev pub begun : Caller L → ℕ
   begun k = begun_of (round_of k) (number_of k)
+
+  -- how many numbers it has drawn
+  abbrev pub draws : Caller L → ℕ
+  draws (Dstm k) = dstm_attempts.draws k
+  draws (Tl2 k) = tl2_attempts.draws k
 
   -- how many reads it has let go so far
   abbrev pub let_go : Caller L → ℕ
