@@ -1,8 +1,9 @@
 -- What follows for a run from its seats, and from why it failed.
 use Rattle.std.proofs.Common.{◌≡◌, ◌∙◌, ◌∷◌, [], ◌++◌, ◌+◌, ◌<◌, ◌≤◌, ℕ, List, Ok, Err, ap, append_assoc, arith, drop, length, map, refl, subst, suc, sym, take, zero, inl, inr, ⊎_elim}
-use Rattle.std.specs.Prelude.{◌⊎◌, All, IfErr, IfOk, IsErrAnd, None, OnOk, Option, Result, slice_index_or}
+use Rattle.std.specs.Prelude.{◌≢◌, ◌⊎◌, All, IfErr, IfOk, IsErrAnd, None, OnOk, Option, Result, slice_index_or, sum}
 use Rattle.std.proofs.lemmas.Bool.{cases_lt}
 use Rattle.std.proofs.lemmas.Grind.{common_steps}
+use Rattle.std.proofs.lemmas.List.Sums.{sum-map}
 use Rattle.std.proofs.lemmas.List.{get_or-map, get_or_push, length-append, length-map, length_push, map-append, map_push}
 use Rattle.std.proofs.Math.ListN.{get_or-append}
 use denote.Ref.{MutBor}
@@ -20,9 +21,10 @@ use Rattle.dstm_model.specs.declared.value.Val.{Val}
 use Rattle.dstm_engine.specs.Tables as dstm
 use Rattle.dstm_tl2_engine.specs.Tables as tl2
 use Rattle.dstm_model.specs.Answers.{Committed}
-use Rattle.dstm_tables.specs.Callers.{done}
+use Rattle.dstm_tables.specs.Callers.{done, draws as draws_of}
 use Rattle.dstm_tables.specs.Engines.{WorksBy}
 use Rattle.dstm_tables.specs.Founders.{Enrols, Retires, founded, made_of}
+use Rattle.dstm_tables.specs.Tables.{callers_there}
 use Rattle.dstm_tables.specs.declared.engine.Engine.{Engine}
 use Rattle.dstm_tables.specs.declared.founding.Founder.{Founder}
 use Rattle.dstm_tables.specs.declared.founding.Founder.TheVariants as founder
@@ -32,8 +34,8 @@ use Rattle.dstm_tables.specs.declared.tables.Table.{Table}
 use Rattle.dstm_tables.specs.declared.tables.Table.TheVariants as table
 use Rattle.dstm_attempts.specs.Attempts.{CommitsUpTo, above}
 use Rattle.dstm_cells.specs.Attempts.{CouldNotRead}
-use Rattle.dstm_cells.specs.Cells.{Founds, ReadsAll, ReadsTooEarly, Takes}
-use Rattle.dstm_cells.specs.Runs.{AnswerEach, AreNumbered, CalledOn, End, EndsSo, FailsByFirst, FailsFor, GivesOutEach, HaveAnswered, HaveNew, InTurn, IsCalled, IsFirst, IsFirstOf, IsNew, LeavesBy, OnItsTable, RanOn, TakesBackEach, WasCalled, WasReadTooEarly, WasUnread, caller_at, ends_of}
+use Rattle.dstm_cells.specs.Cells.{ComesTooEarly, Founds, ReadsAll, ReadsAmiss, ReadsBehind, Takes, drawn_by}
+use Rattle.dstm_cells.specs.Runs.{AnswerEach, AreNumbered, CalledOn, Draws, DrawsNotAll, End, EndsSo, FailsByFirst, FailsFor, GivesOutEach, HaveAnswered, HaveNew, InTurn, IsCalled, IsFirst, IsFirstOf, IsNew, IsTold, LeavesBy, OnItsTable, Ran, RanOn, StandsBefore, TakesBackEach, WasCalled, WasRead, WasReadAmiss, WasUnread, caller_at, ends_of}
 
 -- a vector that was lent as a slice has what was left there, in the same number
 pub lent_back : {X : Type 0} {n count : ℕ} {new whole : List X} (old : List X) → length old ≡ count →
@@ -247,7 +249,7 @@ module _ {T : Type 0} where
 
 -- how a thread ended of which nothing is told
 pub no_end : {T : Type 0} → Ended T
-no_end = record { end = Err Spent; newest = None }
+no_end = record { end = Err Spent; newest = None; draws = 0 }
 
 -- what has committed up to a number stands behind one that is above it
 pub stands_behind : {L : Type 0} (bound : ℕ) (newest : Option ℕ) (k : Caller L) → CommitsUpTo newest k → above newest ≤ bound →
@@ -257,28 +259,26 @@ stands_behind bound newest k up_to less number other within =
 
 module _ {L F T : Type 0} {ghosts : Ghosts L}
     (g : Shared F (MutBor (Part (Tx L ghosts)) × (ℕ × Unit {0})) (End T × (MutBor (Part (Tx L ghosts)) × Unit {0}))) (f : F) where
-  pub was_called : (number : ℕ) (p q : MutBor (Part (Tx L ghosts))) (end : End T) (newest : Option ℕ) →
-      g.post f (p, (number, tt)) (end, (q, tt)) → CommitsUpTo newest q.now.tx.attempts.caller →
-      WasCalled g f number p.now (record { end = end; newest = newest })
-  was_called number p q end newest met up_to =
-      (q.now, record { shown = p; shows = refl; left = q; met = met; leaves = refl }, up_to)
+  pub was_called : (number : ℕ) (p q : MutBor (Part (Tx L ghosts))) (ended : Ended T) →
+      g.post f (p, (number, tt)) (ended.end, (q, tt)) → IsTold g f ended q.now.tx.attempts.caller → WasCalled g f number p.now ended
+  was_called number p q ended met told = (q.now, record { shown = p; shows = refl; left = q; met = met; leaves = refl }, told)
 
   module _ (holds : L → List Val → Type 0) (table : Table L) where
-    -- the closure was called with this number on a part of the table, and that has committed up to what was told
-    abbrev pub CalledUpTo : ℕ → End T → Option ℕ → Type 0
-    CalledUpTo number end newest = (on : CalledOn holds g f table number end) × CommitsUpTo newest on.ended.tx.attempts.caller
+    -- the closure was called with this number on a part of the table, and what was told of that is so
+    abbrev pub CalledUpTo : ℕ → End T → Ended T → Type 0
+    CalledUpTo number end ended = (on : CalledOn holds g f table number end) × IsTold g f ended on.ended.tx.attempts.caller
 
     -- so it was called with each number
     pub each_called : (seats : List (Seat L ghosts)) (ends : List (Ended T)) (threads : ℕ) → length seats ≡ threads →
         length ends ≡ threads → HaveNew holds table seats → AreNumbered seats →
         ((number : ℕ) → number < length seats → (job : Seat L ghosts) × (slice_index_or seats number job ≡ job)
         × WasCalled g f job.number job.me (slice_index_or ends number no_end)) → (number : ℕ) → number < threads →
-        CalledUpTo number (slice_index_or (ends_of ends) number (Err Spent)) (slice_index_or ends number no_end).newest
+        CalledUpTo number (slice_index_or (ends_of ends) number (Err Spent)) (slice_index_or ends number no_end)
     each_called seats ends threads all many new numbered calls number below =
         let ended = slice_index_or ends number no_end in
         let within : number < length seats = omega (arith, all, below) in
         let (job, is, call) = calls number within in
-        let (left, was, up_to) = call in
+        let (left, was, told) = call in
         let on : CalledOn holds g f table number ended.end = record {
           began = job.me;
           new = subst (λ (seat : Seat L ghosts). IsNew holds table number seat.me.tx.attempts.caller) is (new number job within);
@@ -286,8 +286,8 @@ module _ {L F T : Type 0} {ghosts : Ghosts L}
           call = subst (λ n. IsCalled g f n job.me ended.end left)
               (ap (λ (seat : Seat L ghosts). seat.number) (sym is) ∙ numbered number job within) was;
         } in
-        subst (λ end. CalledUpTo number end ended.newest)
-        (sym (get_or-map (λ (e : Ended T). e.end) ends number no_end (Err Spent) (omega (arith, many, below)))) (on, up_to)
+        subst (λ end. CalledUpTo number end ended)
+        (sym (get_or-map (λ (e : Ended T). e.end) ends number no_end (Err Spent) (omega (arith, many, below)))) (on, told)
 
 -- where the answer is a value this is so, and else nothing is said
 pub told_of : {X : Type 0} (P : Type 0) (answer : Result X Failed) → P → OnOk answer P
@@ -303,12 +303,6 @@ last_takes holds g caller founds enrols reads = record {
   enrols = subst (λ new. Enrols holds new g 0 caller) founds.founder enrols;
   reads = reads;
 }
-
--- where no threads have ended, none has committed too late for it
-pub behind_none : {L T : Type 0} (holds : L → List Val → Type 0) {k n : Caller L} →
-    CouldNotRead holds 64 k n ⊎ ReadsTooEarly holds {T = T} [] k → CouldNotRead holds 64 k n
-behind_none holds (inl unread) = unread
-behind_none holds (inr early) = let below = early.early.below in absurd (omega (arith, below))
 
 module _ {L : Type 0} (holds : L → List Val → Type 0) {engine : Engine} {rule : L} {before : List Val} {table : Table L} {f : Founder L}
     (g : Founder L) (caller : Caller L) (founds : Founds rule before table f) (works : WorksBy engine table)
@@ -326,41 +320,82 @@ module _ {L : Type 0} (holds : L → List Val → Type 0) {engine : Engine} {rul
   pub was_unread : {after : Caller L} → CouldNotRead holds 64 caller after → WasUnread holds engine rule before
   was_unread {after} unread = on_its_table (record { caller = caller; enrols = enrols; after = after; unread = unread })
 
--- what has become of one whose last caller came too early
+-- how many numbers these threads have drawn, in their order
+abbrev pub counts_of : {T : Type 0} → List (Ended T) → List ℕ
+counts_of ends = map (λ ended. ended.draws) ends
+
+pub all_counts : {T : Type 0} (ends : List (Ended T)) (own : ℕ) → sum (counts_of ends) + own ≡ drawn_by ends + own
+all_counts ends own = ap (λ n. n + own) (sum-map (λ (ended : Ended _). ended.draws) ends)
+
+-- a run whose last caller has read its table, behind the threads or not
 module _ {L F T : Type 0} {ghosts : Ghosts L}
     (g : Shared F (MutBor (Part (Tx L ghosts)) × (ℕ × Unit {0})) (End T × (MutBor (Part (Tx L ghosts)) × Unit {0}))) (f : F)
     (holds : L → List Val → Type 0) {engine : Engine} {rule : L} {before : List Val} {table : Table L} {founder : Founder L}
     (left : Founder L) (caller : Caller L) (founds : Founds rule before table founder) (works : WorksBy engine table)
-    (enrols : Enrols holds founder left 0 caller) (ends : List (Ended T)) (threads : ℕ) (many : length ends ≡ threads)
+    (enrols : Enrols holds founder left 0 caller) (ends : List (Ended T)) (threads : ℕ) (room : callers_there table ≡ threads + 1)
+    (many : length ends ≡ threads)
     (calls : (number : ℕ) → number < threads → CalledUpTo g f holds table number (slice_index_or (ends_of ends) number (Err Spent))
-    (slice_index_or ends number no_end).newest) where
-  read_too_early : ReadsTooEarly holds ends caller → WasReadTooEarly holds g f engine rule before threads
-  read_too_early reads =
-      let it = reads.early in
-      let within = it.below in
-      let below : it.number < threads = omega (arith, many, within) in
-      let (on, up_to) = calls it.number below in
-      record {
-        table = table;
-        starts = founds.starts;
-        works = works;
-        number = it.number;
-        below = below;
-        end = slice_index_or (ends_of ends) it.number (Err Spent);
-        call = on;
-        newest = it.newest;
-        committed = sym up_to.is ∙ it.told no_end;
-        left = left;
-        after = reads.values;
-        takes = last_takes holds left caller founds enrols reads.reads;
-        early = it.early;
-      }
+    (slice_index_or ends number no_end)) where
+  abbrev pub was_read : {after : List Val} → ReadsAll holds caller after → WasRead holds g f engine rule before threads after
+  was_read reads = record {
+    table = table;
+    starts = founds.starts;
+    works = works;
+    callers = room;
+    ends = λ number. slice_index_or (ends_of ends) number (Err Spent);
+    called = λ number below. (calls number below).0;
+    left = left;
+    takes = last_takes holds left caller founds enrols reads;
+  }
+
+  module _ {after : List Val} (reads : ReadsAll holds caller after) where
+    -- so many they have drawn
+    pub have_drawn : Draws holds g f engine rule before (was_read reads) (counts_of ends)
+    have_drawn = record {
+      size = length-map ends (λ (ended : Ended T). ended.draws) ∙ many;
+      each = λ number below.
+          (calls number below).1.1
+          ∙ sym (get_or-map (λ (ended : Ended T). ended.draws) ends number no_end 0 (omega (arith, many, below)));
+    }
+
+    draws_not_all : (drawn_by ends + draws_of reads.after ≢ reads.takes.number + 1) →
+        DrawsNotAll holds g f engine rule before (was_read reads)
+    draws_not_all missing = record { counts = counts_of ends; draws = have_drawn; missing = λ all. missing (sym (all_counts ends _) ∙ all) }
+
+    stands_before : ComesTooEarly ends reads.takes.number → StandsBefore holds g f engine rule before (was_read reads)
+    stands_before it =
+        let within = it.below in
+        let below : it.number < threads = omega (arith, many, within) in record {
+          number = it.number;
+          below = below;
+          newest = it.newest;
+          committed = sym (calls it.number below).1.0.is ∙ it.told no_end;
+          early = it.early;
+        }
+
+  -- behind them
+  abbrev pub has_run : {after : List Val} → ReadsBehind holds ends caller after → Ran holds g f engine rule before threads after
+  has_run behind = record {
+    read = was_read behind.reads;
+    behind = λ number below.
+        stands_behind behind.reads.takes.number _ (calls number below).0.ended.tx.attempts.caller (calls number below).1.0
+        (behind.behind number no_end (omega (arith, many, below)));
+    all = record {
+      counts = counts_of ends;
+      draws = have_drawn behind.reads;
+      all = all_counts ends _ ∙ behind.all;
+    };
+  }
 
   -- why the values were not taken
-  pub not_read : {last : Caller L} → CouldNotRead holds 64 caller last ⊎ ReadsTooEarly holds ends caller →
-      WasUnread holds engine rule before ⊎ WasReadTooEarly holds g f engine rule before threads
+  pub not_read : {last : Caller L} → CouldNotRead holds 64 caller last ⊎ ReadsAmiss holds ends caller →
+      WasUnread holds engine rule before ⊎ WasReadAmiss holds g f engine rule before threads
   not_read {last} (inl unread) = inl (was_unread holds left caller founds works enrols {after = last} unread)
-  not_read (inr early) = inr (read_too_early early)
+  not_read (inr it) = inr (record {
+    after = it.values;
+    read = was_read it.reads;
+    amiss = ⊎_elim (λ early. inl (stands_before it.reads early)) (λ missing. inr (draws_not_all it.reads missing)) it.amiss;
+  })
 
 -- why a run failed whose values were not taken
 pub untaken : {T : Type 0} (ended : ℕ → End T → Type 0) (unread : Type 0) (threads : ℕ) (why : Failed) →

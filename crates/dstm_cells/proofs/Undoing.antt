@@ -1,5 +1,5 @@
 -- What is noted, and how it is undone.
-use Rattle.std.proofs.Common.{◌≡◌, ◌++◌, ◌+◌, ◌-◌, ◌≤◌, ◌∙◌, ◌∷◌, Bool, List, [], ap, append_assoc, arith, get_or, length, refl, slice_set, subst, sym, take, true, ℕ}
+use Rattle.std.proofs.Common.{◌≡◌, ◌++◌, ◌+◌, ◌≤◌, ◌∙◌, ◌∷◌, Bool, List, [], ap, append_assoc, arith, get_or, length, refl, slice_set, subst, sym, take, true, ℕ}
 use Rattle.std.proofs.lemmas.List.{append-nil, set-get_or, set-set}
 use Rattle.std.proofs.Math.Seq.{take-append_seam}
 use Rattle.dstm_model.specs.declared.value.Val.{Val}

@@ -1,10 +1,11 @@
 -- The cells of a memory between runs, and the table of a run.
-use Rattle.std.specs.Prelude.{◌≡◌, ◌⊎◌, ℕ, ◌+◌, ◌<◌, ◌≤◌, All, Some, replicate, slice_index_or, List, [], ◌∷◌, ◌++◌, length}
+use Rattle.std.specs.Prelude.{◌≡◌, ◌≢◌, ◌⊎◌, ℕ, ◌+◌, ◌<◌, ◌≤◌, All, Some, replicate, slice_index_or, List, [], ◌∷◌, ◌++◌, length, sum_by}
 use Rattle.dstm_model.specs.declared.value.Val.{Val}
 use Rattle.dstm_cells.specs.declared.cell.Cell.{Cell}
 use Rattle.dstm_cells.specs.declared.error.Failed.{Failed}
 use Rattle.dstm_cells.specs.declared.memory.Ended.{Ended}
 use Rattle.dstm_cells.specs.declared.error.Failed.TheVariants as failed
+use Rattle.dstm_tables.specs.Callers.{draws}
 use Rattle.dstm_tables.specs.Founders.{Enrols, founded}
 use Rattle.dstm_tables.specs.Tables.{law_there, objects_there, start_there}
 use Rattle.dstm_tables.specs.declared.founding.Founder.{Founder}
@@ -44,6 +45,10 @@ pub record ComesTooEarly {T : Type 0} (ends : List (Ended T)) (at : ℕ) : Type 
   pub told : (other : Ended T) → (slice_index_or ends number other).newest ≡ Some newest
   pub early : at ≤ newest
 
+-- how many numbers these threads have drawn, as they tell
+abbrev pub drawn_by : {T : Type 0} → List (Ended T) → ℕ
+drawn_by {T} ends = sum_by (λ (ended : Ended T). ended.draws) ends
+
 module _ {L : Type 0} (rule : L) (values : List Val) where
   -- a table has an object for each of these values, under this law
   pub record IsFor (table : Table L) : Type 0 where
@@ -80,16 +85,18 @@ module _ {L : Type 0} (holds : L → List Val → Type 0) where
     pub takes : TakesEffect holds last after
     pub settles : Settles holds (AreValues values) k after takes.number
 
-  -- THEY WERE READ BEHIND what some threads have committed: under a greater number than any of theirs
+  -- THEY WERE READ BEHIND what some threads have committed: under a greater number than any of theirs. All numbers up to that
+  -- one were drawn by these threads, and by the caller that reads.
   pub record ReadsBehind {T : Type 0} (ends : List (Ended T)) (k : Caller L) (values : List Val) : Type 0 where
     pub reads : ReadsAll k values
     pub behind : All (λ (ended : Ended T). above ended.newest ≤ reads.takes.number) ends
+    pub all : drawn_by ends + draws reads.after ≡ reads.takes.number + 1
 
-  -- they were not
-  pub record ReadsTooEarly {T : Type 0} (ends : List (Ended T)) (k : Caller L) : Type 0 where
+  -- they were not: one of these threads has committed under a greater number, or somebody else has drawn one
+  pub record ReadsAmiss {T : Type 0} (ends : List (Ended T)) (k : Caller L) : Type 0 where
     pub values : List Val
     pub reads : ReadsAll k values
-    pub early : ComesTooEarly ends reads.takes.number
+    pub amiss : ComesTooEarly ends reads.takes.number ⊎ (drawn_by ends + draws reads.after ≢ reads.takes.number + 1)
 
   -- they were read by a new caller of a table
   pub record Takes (f g : Founder L) (values : List Val) : Type 0 where

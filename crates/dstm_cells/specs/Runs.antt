@@ -1,11 +1,11 @@
 -- What the threads of a run have done, how it ended, and what it has left.
-use Rattle.std.specs.Prelude.{◌≡◌, ◌⊎◌, ℕ, zero, suc, ◌+◌, ◌<◌, ◌≤◌, All, IfErr, List, Result, Ok, Err, Some, length, map, slice_index_or}
+use Rattle.std.specs.Prelude.{◌≡◌, ◌≢◌, ◌⊎◌, ℕ, zero, suc, ◌+◌, ◌<◌, ◌≤◌, All, IfErr, List, Result, Ok, Err, Some, length, map, slice_index_or, sum}
 use denote.Ref.{MutBor}
 use Rattle.std.specs.Fn.{Shared}
 use Rattle.dstm_model.specs.declared.value.Law.{Ghosts}
 use Rattle.dstm_model.specs.declared.value.Val.{Val}
 use Rattle.dstm_model.specs.Answers.{Committed}
-use Rattle.dstm_tables.specs.Callers.{done, home_of}
+use Rattle.dstm_tables.specs.Callers.{done, draws as draws_of, home_of}
 use Rattle.dstm_tables.specs.Engines.{WorksBy}
 use Rattle.dstm_tables.specs.Founders.{Enrols, Retires, founded}
 use Rattle.dstm_tables.specs.Tables.{callers_there}
@@ -189,11 +189,15 @@ ends_of calls = map (λ call. call.end) calls
 
 module _ {L F T : Type 0} {ghosts : Ghosts L}
     (g : Shared F (MutBor (Part (Tx L ghosts)) × (ℕ × Unit {0})) (End T × (MutBor (Part (Tx L ghosts)) × Unit {0}))) (f : F) where
-  -- the closure was called on this part with its number, and its thread has ended so; what it has left has committed up to the
-  -- number that is told
+  -- what is told of a thread's part is so: up to which number it has committed, and how many it has drawn
+  abbrev pub IsTold : Ended T → Caller L → Type 0
+  IsTold ended k = CommitsUpTo ended.newest k × (draws_of k ≡ ended.draws)
+
+  -- the closure was called on this part with its number, and its thread has ended so; what is told of the part that it has left
+  -- is so
   abbrev pub WasCalled : (number : ℕ) (began : Part (Tx L ghosts)) (ended : Ended T) → Type 0
   WasCalled number began ended =
-      (left : Part (Tx L ghosts)) × IsCalled g f number began ended.end left × CommitsUpTo ended.newest left.tx.attempts.caller
+      (left : Part (Tx L ghosts)) × IsCalled g f number began ended.end left × IsTold ended left.tx.attempts.caller
 
 module _ {L F T : Type 0} {ghosts : Ghosts L} (holds : L → List Val → Type 0)
     (g : Shared F (MutBor (Part (Tx L ghosts)) × (ℕ × Unit {0})) (End T × (MutBor (Part (Tx L ghosts)) × Unit {0}))) (f : F) where
@@ -213,11 +217,10 @@ module _ {L F T : Type 0} {ghosts : Ghosts L} (holds : L → List Val → Type 0
       pub works : WorksBy engine table
       pub on : CalledOn table number end
 
-    -- A RUN ON ONE TABLE, which was made of these values, works by this engine and has a caller for each number and one more:
-    -- the closure was called with each number on a new part of it, and the values after it are those that the objects of this
-    -- table had together at the place of a last transaction. That has a greater number than any that a part had committed, as its
-    -- call has left it, and so stands behind all of them.
-    pub record Ran (threads : ℕ) (after : List Val) : Type 0 where
+    -- A RUN WAS READ: on one table, which was made of these values, works by this engine and has a caller for each number and one
+    -- more, the closure was called with each number on a new part of it, and the values after it are those that the objects of
+    -- this table had together at the place of a last transaction
+    pub record WasRead (threads : ℕ) (after : List Val) : Type 0 where
       pub table : Table L
       pub starts : Starts rule values table
       pub works : WorksBy engine table
@@ -226,26 +229,59 @@ module _ {L F T : Type 0} {ghosts : Ghosts L} (holds : L → List Val → Type 0
       pub called : (number : ℕ) → number < threads → CalledOn table number (ends number)
       pub left : Founder L
       pub takes : Takes holds (founded table) left after
-      pub behind : (number : ℕ) (below : number < threads) →
-          All (λ (attempt : Committed). attempt.number < takes.reads.takes.number)
-          (done (called number below).ended.tx.attempts.caller)
 
-    -- A RUN WAS READ TOO EARLY: a part had committed, as its call has left it, under a number that is no smaller than that of the
-    -- last transaction
-    pub record WasReadTooEarly (threads : ℕ) : Type 0 where
-      pub table : Table L
-      pub starts : Starts rule values table
-      pub works : WorksBy engine table
-      pub number : ℕ
-      pub below : number < threads
-      pub end : End T
-      pub call : CalledOn table number end
-      pub newest : ℕ
-      pub committed : newest_of (done call.ended.tx.attempts.caller) ≡ Some newest
-      pub left : Founder L
+    module _ {threads : ℕ} {after : List Val} (read : WasRead threads after) where
+      -- the part of a number, as its call has left it
+      abbrev pub left_by : (number : ℕ) → number < threads → Caller L
+      left_by number below = (read.called number below).ended.tx.attempts.caller
+
+      -- the number of the last transaction
+      abbrev pub last_number : ℕ
+      last_number = read.takes.reads.takes.number
+
+      -- the last transaction stands behind all that the parts had committed, as their calls have left them: its number is greater
+      abbrev pub StandsBehind : Type 0
+      StandsBehind =
+          (number : ℕ) (below : number < threads) →
+          All (λ (attempt : Committed). attempt.number < last_number) (done (left_by number below))
+
+      -- or it does not
+      pub record StandsBefore : Type 0 where
+        pub number : ℕ
+        pub below : number < threads
+        pub newest : ℕ
+        pub committed : newest_of (done (left_by number below)) ≡ Some newest
+        pub early : last_number ≤ newest
+
+      -- so many numbers the parts had drawn, as their calls have left them
+      pub record Draws (counts : List ℕ) : Type 0 where
+        pub size : length counts ≡ threads
+        pub each : (number : ℕ) (below : number < threads) → draws_of (left_by number below) ≡ slice_index_or counts number 0
+
+      -- NOBODY ELSE HAS DRAWN A NUMBER of the table up to the last one: they had drawn all but those of the caller that has read
+      pub record DrawsAll : Type 0 where
+        pub counts : List ℕ
+        pub draws : Draws counts
+        pub all : sum counts + draws_of read.takes.reads.after ≡ last_number + 1
+
+      -- or somebody has
+      pub record DrawsNotAll : Type 0 where
+        pub counts : List ℕ
+        pub draws : Draws counts
+        pub missing : sum counts + draws_of read.takes.reads.after ≢ last_number + 1
+
+    -- A RUN ON ONE TABLE was read behind all that its parts had committed in their calls, and nobody else has drawn a number there
+    pub record Ran (threads : ℕ) (after : List Val) : Type 0 where
+      pub read : WasRead threads after
+      pub open read use *
+      pub behind : StandsBehind read
+      pub all : DrawsAll read
+
+    -- A RUN WAS READ AMISS: too early for one of its parts, or where somebody else had drawn a number
+    pub record WasReadAmiss (threads : ℕ) : Type 0 where
       pub after : List Val
-      pub takes : Takes holds (founded table) left after
-      pub early : takes.reads.takes.number ≤ newest
+      pub read : WasRead threads after
+      pub amiss : StandsBefore read ⊎ DrawsNotAll read
 
     -- and what is told of these calls' ends is so
     pub record RanOn (threads : ℕ) (after : List Val) (told : (ℕ → End T) → Type 0) : Type 0 where

@@ -1,9 +1,9 @@
 // Cells, and threads that change them.
-ghost use Rattle.std.specs.Prelude.{◌≡◌, ◌⊎◌, ◌↔◌, ◌+◌, ◌<◌, ◌≤◌, ℕ, [], length, slice_index_or, vec_capacity, All, Ok, Err, true, false, IfErr, IfOk, OnOk};
+ghost use Rattle.std.specs.Prelude.{◌≡◌, ◌≢◌, ◌⊎◌, ◌↔◌, ◌+◌, ◌<◌, ◌≤◌, ℕ, [], length, slice_index_or, vec_capacity, All, Ok, Err, true, false, IfErr, IfOk, OnOk};
 ghost use Rattle.dstm_attempts.specs.Attempts.{above};
 ghost use Rattle.dstm_cells.specs.Attempts.{CouldNotRead};
-ghost use Rattle.dstm_cells.specs.Cells.{Adds, AddsAll, AreNamed, ComesTooEarly, Founds, GivesAtMostOne, IsFor, LeavesUnread, ReadsBehind, ReadsTooEarly, Takes, WantsRoom};
-ghost use Rattle.dstm_cells.specs.Runs.{AnswerEach, AreAt, AreNumbered, CalledFor, FailsByFirst, FailsFor, GivesOutSeats, HaveAnswered, HaveNew, IsFirst, IsFirstOf, IsWorked, LeavesBy, RanInTurn, RanOn, TakesBackSeats, WasCalled, WasReadTooEarly, WasUnread, ends_of};
+ghost use Rattle.dstm_cells.specs.Cells.{Adds, AddsAll, AreNamed, ComesTooEarly, Founds, GivesAtMostOne, IsFor, LeavesUnread, ReadsAll, ReadsAmiss, ReadsBehind, Takes, WantsRoom, drawn_by};
+ghost use Rattle.dstm_cells.specs.Runs.{AnswerEach, AreAt, AreNumbered, CalledFor, FailsByFirst, FailsFor, GivesOutSeats, HaveAnswered, HaveNew, IsFirst, IsFirstOf, IsWorked, LeavesBy, RanInTurn, RanOn, TakesBackSeats, WasCalled, WasReadAmiss, WasUnread, ends_of};
 ghost use Rattle.dstm_cells.specs.declared.error.Failed.TheVariants as failed;
 ghost use Rattle.dstm_model.specs.Map.{state_after, value_at};
 ghost use Rattle.dstm_tables.specs.Callers.{home_of};
@@ -47,11 +47,12 @@ struct Seat<'a, L: Law> {
     ended: Result<(), GaveUp>,
 }
 
-// How a thread has ended, and the number of the newest that its part has committed.
+// How a thread has ended, the number of the newest that its part has committed, and how many numbers that has drawn.
 #[derive(Drop)]
 struct Ended<T> {
     end: Result<T, GaveUp>,
     newest: Option<u64>,
+    draws: u64,
 }
 
 impl Memory {
@@ -199,25 +200,42 @@ impl<L: Law + Copy> Memory<L> {
         ensures gives { GivesAtMostOne L.holds founder.old founder.new }
     {
         let mut last = self.part(table, founder, 0)?;
-        self.take_by::<()>(&mut last, &[])
+        self.take_by(&mut last)
     }
 
-    // Takes the values of the cells by a part of a table that was founded for a run, by a transaction that stands behind all that
-    // these threads have committed.
-    fn take_by<T>(&mut self, last: &mut Me<'_, L>, ends: &[Ended<T>]) -> Result<(), Failed>
+    // Takes the values of the cells by a part of a table that was founded for a run.
+    fn take_by(&mut self, last: &mut Me<'_, L>) -> Result<(), Failed>
         requires lawful { L.holds self.old.law self.old.values.items }
         requires founds { IsFor self.old.law self.old.values.items (home_of last.old.tx.attempts.caller) }
         ensures engine { self.new.engine ≡ self.old.engine }
         ensures law { self.new.law ≡ self.old.law }
         ensures lawful { L.holds self.new.law self.new.values.items }
         ensures size { length self.new.values.items ≡ length self.old.values.items }
+        ensures reads { OnOk result (ReadsAll L.holds last.old.tx.attempts.caller self.new.values.items) }
+        ensures fails { IfErr result (λ why. (self.new ≡ self.old) × ((why ≡ failed.Memory) ⊎ (why ≡ failed.Unread))) }
+        ensures unread { result ≡ Err failed.Unread → CouldNotRead L.holds 64 last.old.tx.attempts.caller last.new.tx.attempts.caller }
+    {
+        let (values, _) = last.tx.values(self.alloc, self.values.len() as u32)?;
+        self.values = values;
+        Ok(())
+    }
+
+    // The same, by a transaction that stands behind all that these threads have committed, where nobody else has drawn a number
+    // before it.
+    fn take_behind<T>(&mut self, last: &mut Me<'_, L>, ends: &[Ended<T>]) -> Result<(), Failed>
+        requires lawful { L.holds self.old.law self.old.values.items }
+        requires founds { IsFor self.old.law self.old.values.items (home_of last.old.tx.attempts.caller) }
         ensures reads { OnOk result (ReadsBehind L.holds ends.now last.old.tx.attempts.caller self.new.values.items) }
+        ensures engine { self.new.engine ≡ self.old.engine }
+        ensures law { self.new.law ≡ self.old.law }
+        ensures lawful { L.holds self.new.law self.new.values.items }
+        ensures size { length self.new.values.items ≡ length self.old.values.items }
         ensures fails { IfErr result (λ why. (self.new ≡ self.old) × ((why ≡ failed.Memory) ⊎ (why ≡ failed.Unread))) }
         ensures unread { result ≡ Err failed.Unread → CouldNotRead L.holds 64 last.old.tx.attempts.caller last.new.tx.attempts.caller
-            ⊎ ReadsTooEarly L.holds ends.now last.old.tx.attempts.caller }
+            ⊎ ReadsAmiss L.holds ends.now last.old.tx.attempts.caller }
     {
         let (values, number) = last.tx.values(self.alloc, self.values.len() as u32)?;
-        if !are_before(ends, number) {
+        if !are_before(ends, number) || !have_drawn_all(ends, last.tx.attempts.draws(), number) {
             return Err(Failed::Unread);
         }
         self.values = values;
@@ -336,7 +354,7 @@ impl<L: Law + Copy + Sync> Memory<L> {
 impl Memory {
     /// Calls the closure with each number below `threads`, from 1 to 63, each in a thread of its own where one can be
     /// made, and gives it the thread's part by which to make transactions. The values that it leaves are read behind all that
-    /// the threads have committed.
+    /// the threads have committed, and nobody else has drawn a number on the table before that.
     pub fn run<R: Threads + Sync, F>(&mut self, rt: &R, threads: u32, f: F) -> Result<(), Failed>
     where
         F: Fn(&mut Me<'_>, usize) -> Result<(), GaveUp> + Sync,
@@ -350,7 +368,7 @@ impl Memory {
         ensures fails { IfErr result (FailsFor
             (CalledFor ⟦<AnyLaw as Law>⟧.holds F.Fn f self.old.engine self.old.law self.old.values.items)
             (WasUnread ⟦<AnyLaw as Law>⟧.holds self.old.engine self.old.law self.old.values.items
-            ⊎ WasReadTooEarly ⟦<AnyLaw as Law>⟧.holds F.Fn f self.old.engine self.old.law self.old.values.items threads) threads) }
+            ⊎ WasReadAmiss ⟦<AnyLaw as Law>⟧.holds F.Fn f self.old.engine self.old.law self.old.values.items threads) threads) }
         ensures left { LeavesBy (RanOn ⟦<AnyLaw as Law>⟧.holds F.Fn f self.old.engine self.old.law self.old.values.items threads
             self.new.values.items (λ ends. OnOk result ((number : ℕ) → number < threads → ends number ≡ Ok tt)
             × FailsByFirst ends threads result)) (self.new ≡ self.old) result }
@@ -381,7 +399,7 @@ impl Memory {
         ensures fails { IfErr result (FailsFor
             (CalledFor ⟦<AnyLaw as Law>⟧.holds F.Fn f self.old.engine self.old.law self.old.values.items)
             (WasUnread ⟦<AnyLaw as Law>⟧.holds self.old.engine self.old.law self.old.values.items
-            ⊎ WasReadTooEarly ⟦<AnyLaw as Law>⟧.holds F.Fn f self.old.engine self.old.law self.old.values.items threads) threads) }
+            ⊎ WasReadAmiss ⟦<AnyLaw as Law>⟧.holds F.Fn f self.old.engine self.old.law self.old.values.items threads) threads) }
         ensures left { LeavesBy (RanOn ⟦<AnyLaw as Law>⟧.holds F.Fn f self.old.engine self.old.law self.old.values.items threads
             self.new.values.items (λ ends. IfOk result (λ answers. AnswerEach ends threads answers.items)
             × FailsByFirst ends threads result)) (self.new ≡ self.old) result }
@@ -398,7 +416,7 @@ impl Memory {
                 ensures { WasCalled F.Fn f seat.entry.number seat.entry.me result }
             { answer(&f, seat) },
         )?;
-        self.take_by(&mut reader, &ends)?;
+        self.take_behind(&mut reader, &ends)?;
         all_answers(answers, ends)
     }
 }
@@ -432,7 +450,8 @@ fn how_all_ended<L: Law>(seats: &[Seat<'_, L>]) -> Result<(), Failed>
     Ok(())
 }
 
-// Calls the closure on a seat, and hands back what it has answered, and up to which number its part has committed then.
+// Calls the closure on a seat, and hands back what it has answered, up to which number its part has committed then, and how many
+// numbers that has drawn.
 fn answer<T, F>(f: &F, seat: Seat<'_, AnyLaw>) -> Ended<T>
 where
     F: Fn(&mut Me<'_>, usize) -> Result<T, GaveUp>,
@@ -445,6 +464,7 @@ where
     Ended {
         end,
         newest: me.tx.attempts.newest(),
+        draws: me.tx.attempts.draws(),
     }
 }
 
@@ -461,6 +481,18 @@ fn are_before<T>(ends: &[Ended<T>], number: u64) -> bool
         }
     }
     true
+}
+
+// Whether these threads, and one more that has drawn so many numbers, have drawn all up to this one.
+fn have_drawn_all<T>(ends: &[Ended<T>], own: u64, number: u64) -> bool
+    ensures all { result ≡ true → drawn_by ends.now + own ≡ number + 1 }
+    ensures missing { result ≡ false → drawn_by ends.now + own ≢ number + 1 }
+{
+    let mut drawn = u128::from(own);
+    for ended in ends {
+        drawn = drawn.saturating_add(u128::from(ended.draws));
+    }
+    drawn == u128::from(number) + 1
 }
 
 // What all threads have answered, or how the first one ended that did not end well.

@@ -234,7 +234,8 @@ impl<'a, L: Law> Tx<'a, L> {
         ensures all { IfOk result (λ read. length read.0.items ≡ objects) }
         ensures lawful { IfOk result (λ read. L.holds (law_of self.old.attempts.caller) read.0.items) }
         ensures reads { IfOk result (λ read.
-            (reads : ReadsAll L.holds self.old.attempts.caller read.0.items) × (reads.takes.number ≡ read.1)) }
+            (reads : ReadsAll L.holds self.old.attempts.caller read.0.items) × (reads.takes.number ≡ read.1)
+            × (reads.after ≡ self.new.attempts.caller)) }
         ensures fails { IfErr result (λ why. (why ≡ failed.Memory) ⊎ (why ≡ failed.Unread)) }
         ensures unread { result ≡ Err failed.Unread → CouldNotRead L.holds 64 self.old.attempts.caller self.new.attempts.caller }
     {

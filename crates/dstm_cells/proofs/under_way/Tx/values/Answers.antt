@@ -34,6 +34,7 @@ returns-in-Some-clause-reads g c =
             (λ map may. let is = c.in-Ok-all.ensures.reads map may in (is, c.in-Ok-all.ensures.untouched map ∙ is));
       },
       refl,
+      refl,
     )
 
 pub loop-reading-init : goal.loop-reading-init
