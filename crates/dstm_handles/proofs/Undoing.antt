@@ -1,5 +1,5 @@
 -- What is noted of what a part sets, and how it is undone.
-use Rattle.std.proofs.Common.{◌≡◌, ◌++◌, ◌+◌, ◌-◌, ◌≤◌, ◌∙◌, ◌∷◌, List, [], ap, get_or, length, refl, slice_set, subst, sym, take, ℕ}
+use Rattle.std.proofs.Common.{◌≡◌, ◌++◌, ◌+◌, ◌≤◌, ◌∙◌, ◌∷◌, List, [], ap, get_or, length, refl, slice_set, subst, sym, take, ℕ}
 use Rattle.std.proofs.lemmas.List.{append-nil, set-get_or, set-set}
 use Rattle.dstm_model.specs.declared.value.AnyLaw.{AnyLaw}
 use Rattle.dstm_model.specs.declared.value.Val.{Val}

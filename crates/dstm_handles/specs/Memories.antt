@@ -1,11 +1,13 @@
 -- The cells of a memory, and the table on which threads change them.
-use Rattle.std.specs.Prelude.{◌≡◌, ◌⊎◌, ℕ, List, [], ◌∷◌, ◌++◌, length, Option, None, Some}
+use Rattle.std.specs.Prelude.{◌≡◌, ◌⊎◌, ℕ, ◌+◌, ◌%◌, ◌^◌, List, [], ◌∷◌, ◌++◌, length, Option, None, Some}
 use Rattle.std.specs.Arc.{arc_value}
 use Rattle.dstm_model.specs.declared.value.AnyLaw.{AnyLaw}
 use Rattle.dstm_model.specs.declared.value.Val.{Val}
 use Rattle.dstm_tables.specs.Callers.{home_of}
 use Rattle.dstm_tables.specs.Engines.{WorksBy}
+use Rattle.dstm_tables.specs.Founders.{Enrols, founded}
 use Rattle.dstm_tables.specs.Tables.{objects_there, start_there}
+use Rattle.dstm_tables.specs.declared.founding.Founder.{Founder}
 use Rattle.dstm_tables.specs.declared.tables.Caller.{Caller}
 use Rattle.dstm_tables.specs.declared.tables.Table.{Table}
 use Rattle.dstm_attempts.specs.Attempts.{AddsNothing, Begins, Keeps, Settles, TakesEffect}
@@ -65,12 +67,6 @@ abbrev pub GivesAtHome : Option Home → Option Home → Type 0
 GivesAtHome (Some old) (Some new) = (table_at new ≡ table_at old) × (new.last ≡ old.last)
 GivesAtHome old new = ⊥
 
--- a part was given out of the table that a memory has, and goes on to have
-pub record GivesMore (old new : Memory) (part : Thread) : Type 0 where
-  pub values : new.values.items ≡ old.values.items
-  pub home : GivesAtHome old.home new.home
-  pub at : IsAt new.home (home_of part.attempts.caller)
-
 module _ (holds : AnyLaw → List Val → Type 0) where
   -- THE VALUES OF ALL CELLS WERE READ: an attempt of the caller has begun, before which it had committed nothing more, and has
   -- taken effect. So the caller has committed one transaction more, and in every run these are the values of the cells at its
@@ -121,12 +117,35 @@ module _ (holds : AnyLaw → List Val → Type 0) where
   abbrev pub KeepsCells : Memory → Memory → Type 0
   KeepsCells old new = StaysOut old new ⊎ IsSettled old new
 
-  -- a part was given out of a new table, which works by the memory's engine and was made of the values that it has taken back
+  -- the part is a new caller of the table, with this seed: its founder has just given it out
+  abbrev pub EnrolsAtHome : Option Home → Option Home → (seed : ℕ) → Thread → Type 0
+  EnrolsAtHome (Some old) (Some new) seed part = Enrols holds old.founder new.founder seed part.attempts.caller
+  EnrolsAtHome old new seed part = ⊥
+
+  -- a part was given out of the table that a memory has, and goes on to have; it has the next seed
+  pub record GivesMore (old new : Memory) (part : Thread) : Type 0 where
+    pub values : new.values.items ≡ old.values.items
+    pub home : GivesAtHome old.home new.home
+    pub at : IsAt new.home (home_of part.attempts.caller)
+    pub seeds : new.seeds ≡ (old.seeds + 1) % 2 ^ 64
+    pub enrols : EnrolsAtHome old.home new.home new.seeds part
+
+  -- the founder of a new table has given out the memory's own part, and then this one, and none beside them
+  abbrev pub EnrolsFirst : Option Home → (seed : ℕ) → Thread → Type 0
+  EnrolsFirst None seed part = ⊥
+  EnrolsFirst (Some home) seed part =
+      (f : Founder AnyLaw) × Enrols holds (founded (table_at home)) f 0 home.last.attempts.caller
+      × Enrols holds f home.founder seed part.attempts.caller
+
+  -- a part was given out of a new table, which works by the memory's engine and was made of the values that it has taken back; it
+  -- has the next seed
   pub record GivesFirst (old new : Memory) (part : Thread) : Type 0 where
     pub settled : HasSettled old new.values.items
     pub starts : StartsWith new.values.items (home_of part.attempts.caller)
     pub works : WorksBy new.engine (home_of part.attempts.caller)
     pub at : IsAt new.home (home_of part.attempts.caller)
+    pub seeds : new.seeds ≡ (old.seeds + 1) % 2 ^ 64
+    pub enrols : EnrolsFirst new.home new.seeds part
 
   -- A PART WAS GIVEN OUT of the table that the memory has then: of the one that it had, or of a new one
   abbrev pub Gives : Memory → Memory → Thread → Type 0

@@ -1,14 +1,15 @@
 // The calls of a memory.
-ghost use Rattle.std.specs.Prelude.{◌≡◌, ◌≢◌, ◌⊎◌, ◌↔◌, Err, ◌<◌, ◌≤◌, List, [], length, false, None, IfErr, IfOk, OnOk};
+ghost use Rattle.std.specs.Prelude.{◌≡◌, ◌≢◌, ◌⊎◌, ◌↔◌, ◌+◌, ◌%◌, ◌^◌, Err, ◌<◌, ◌≤◌, List, [], length, false, None, IfErr, IfOk, OnOk};
 ghost use Rattle.dstm_attempts.specs.Attempts.{AddsNothing, IsUntouched, Keeps, MayBegin, objects_of};
 ghost use Rattle.dstm_model.specs.Map.{value_at};
 ghost use Rattle.dstm_model.specs.declared.value.AnyLaw.{AnyLaw as AnyLawValue};
 ghost use Rattle.dstm_model.specs.declared.value.Val.{Val};
 ghost use Rattle.dstm_tables.specs.Callers.{home_of};
 ghost use Rattle.dstm_tables.specs.Engines.{WorksBy};
+ghost use Rattle.dstm_tables.specs.Founders.{Enrols, founded};
 ghost use Rattle.dstm_tables.specs.Tables.{objects_there};
 ghost use Rattle.dstm_tables.specs.declared.tables.Caller.{Caller};
-ghost use Rattle.dstm_handles.specs.Memories.{Gives, GivesAtHome, GivesPart, Grows, HasSettled, IsAt, IsWithheld, KeepsCells, KeepsTerms, ReadsAll, StartsWith, StaysOut, table_at};
+ghost use Rattle.dstm_handles.specs.Memories.{EnrolsAtHome, EnrolsFirst, Gives, GivesAtHome, GivesPart, Grows, HasSettled, IsAt, IsWithheld, KeepsCells, KeepsTerms, ReadsAll, StartsWith, StaysOut, table_at};
 ghost use Rattle.dstm_handles.specs.Threads.{MayCall};
 ghost use Rattle.dstm_handles.specs.declared.code.Code.TheVariants.{Again, Done, Foreign, Full, Range, Spent};
 ghost use Rattle.dstm_handles.specs.declared.code.Code.TheVariants as code;
@@ -125,7 +126,8 @@ impl Memory {
         ensures stays { IfErr result (λ why. StaysOut self.old self.new) }
         ensures withheld { IfErr result IsWithheld }
         ensures fails { IfErr result (λ why. why ≢ Done) }
-        ensures same { (self.new.engine ≡ self.old.engine) × (self.new.threads ≡ self.old.threads) }
+        ensures same { (self.new.engine ≡ self.old.engine) × (self.new.threads ≡ self.old.threads)
+            × (self.new.seeds ≡ self.old.seeds) }
     {
         match &mut self.home {
             None => return Ok(()),
@@ -150,6 +152,10 @@ impl Memory {
         ensures values { self.new.values.items ≡ self.old.values.items }
         ensures at { IfOk result (λ part. IsAt self.new.home (home_of part.attempts.caller)) }
         ensures home { OnOk result (GivesAtHome self.old.home self.new.home) }
+        ensures seeds { OnOk result (self.new.seeds ≡ (self.old.seeds + 1) % 2 ^ 64) }
+        ensures unsown { IfErr result (λ why. self.new.seeds ≡ self.old.seeds) }
+        ensures enrols { IfOk result
+            (EnrolsAtHome ⟦<AnyLaw as Law>⟧.holds self.old.home self.new.home self.new.seeds) }
         ensures kept { IfErr result (λ why. self.new.home ≡ self.old.home) }
         ensures terms { KeepsTerms self.old self.new }
     {
@@ -164,8 +170,10 @@ impl Memory {
                 if out == 0 && home.given.saturating_add(self.threads) >= callers {
                     return Err(Code::Full);
                 }
-                self.seeds = self.seeds.wrapping_add(1);
-                home.part(self.alloc, self.seeds)
+                let seed = self.seeds.wrapping_add(1);
+                let part = home.part(self.alloc, seed)?;
+                self.seeds = seed;
+                Ok(part)
             }
         }
     }
@@ -175,14 +183,18 @@ impl Memory {
         ensures starts { IfOk result (λ part. StartsWith self.old.values.items (home_of part.attempts.caller)) }
         ensures works { IfOk result (λ part. WorksBy self.old.engine (home_of part.attempts.caller)) }
         ensures at { IfOk result (λ part. IsAt self.new.home (home_of part.attempts.caller)) }
+        ensures seeds { OnOk result (self.new.seeds ≡ (self.old.seeds + 1) % 2 ^ 64) }
+        ensures enrols { IfOk result (EnrolsFirst ⟦<AnyLaw as Law>⟧.holds self.new.home self.new.seeds) }
         ensures values { self.new.values.items ≡ self.old.values.items }
         ensures kept { IfErr result (λ why. self.new.home ≡ self.old.home) }
         ensures terms { KeepsTerms self.old self.new }
         ensures idle { IfOk result (λ part. part.begun ≡ false) }
         ensures fails { IfErr result (λ why. why ≢ Done) }
     {
+        let seed = self.seeds.wrapping_add(1);
         let mut home = self.found()?;
-        let part = home.part(self.alloc, 1)?;
+        let part = home.part(self.alloc, seed)?;
+        self.seeds = seed;
         self.home = Some(home);
         Ok(part)
     }
@@ -191,6 +203,8 @@ impl Memory {
     fn found(&self) -> Result<Home, Code>
         ensures starts { IfOk result (λ home. StartsWith self.now.values.items (table_at home)) }
         ensures works { IfOk result (λ home. WorksBy self.now.engine (table_at home)) }
+        ensures own { IfOk result (λ home. Enrols ⟦<AnyLaw as Law>⟧.holds (founded (table_at home)) home.founder 0
+            home.last.attempts.caller) }
         ensures fails { IfErr result (λ why. why ≢ Done) }
     {
         let Ok(start) = Vec::from_slice(self.alloc, &self.values) else {
@@ -229,6 +243,8 @@ impl Home {
         ensures own { self.new.last ≡ self.old.last }
         ensures same { IfErr result (λ why. self.new ≡ self.old) }
         ensures part { IfOk result (λ part. home_of part.attempts.caller ≡ table_at self.old) }
+        ensures enrols { IfOk result (λ part. Enrols ⟦<AnyLaw as Law>⟧.holds self.old.founder self.new.founder seed
+            part.attempts.caller) }
         ensures idle { IfOk result (λ part. part.begun ≡ false) }
         ensures fails { IfErr result (λ why. why ≢ Done) }
     {
