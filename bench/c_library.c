@@ -1,9 +1,10 @@
 /* c_library WHAT KIND THREADS EACH CELLS: nanoseconds for each transaction, on the clock and of the processors, of
+     plain  plain words with nothing around them, for one thread: what the program's own part takes
      mutex  a pthread mutex around plain words
-     itm    gcc's __transaction_atomic
+     itm    gcc's __transaction_atomic, by the method that ITM_DEFAULT_METHOD names
      tl2, polka, karma, polite, greedy  the library, by that engine
    A move takes one from a cell and gives it to another one (two reads, two writes); a read reads four cells. Each
-   thread makes EACH transactions over CELLS cells. `python3 c/make.py --bench` builds and runs it. */
+   thread makes EACH transactions over CELLS cells. `c_library.py` builds and runs it. */
 #define _GNU_SOURCE
 #include "dstm.h"
 #include <pthread.h>
@@ -65,17 +66,20 @@ static void *work(void *arg) {
     volatile uint64_t out = 0; /* gcc jumps back to the begin of a transaction of its own */
     volatile int i;
     uint64_t seed = 88172645463325252ull + 7919 * me;
-    int reads = !strcmp(kind, "read");
+    int reads = !strcmp(kind, "read"), locks = !strcmp(what, "mutex"), plainly = !strcmp(what, "plain");
     pthread_barrier_wait(&start);
     for (i = 0; i < each; i++) {
         struct two it;
         it.from = next(&seed) % cells;
         it.to = (it.from + 1 + next(&seed) % (cells > 1 ? cells - 1 : 1)) % cells;
-        if (!strcmp(what, "mutex")) {
-            pthread_mutex_lock(&lock);
-            if (reads) for (int k = 0; k < 4; k++) out += plain[(it.from + k) % cells];
-            else { plain[it.from]--; plain[it.to]++; }
-            pthread_mutex_unlock(&lock);
+        if (locks || plainly) {
+            if (locks) pthread_mutex_lock(&lock);
+            if (reads) {
+                uint64_t sum = 0;
+                for (int k = 0; k < 4; k++) sum += plain[(it.from + k) % cells];
+                out += sum;
+            } else { plain[it.from]--; plain[it.to]++; }
+            if (locks) pthread_mutex_unlock(&lock);
         } else if (engine < 0) {
             if (reads) {
                 uint64_t sum = 0;

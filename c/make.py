@@ -6,7 +6,8 @@
     python3 c/make.py --quiet           says only what failed, what was skipped, and how many passed; and leaves out what
                                         another version of a tool may see otherwise: whether clippy has a warning, and
                                         what rustc's thread sanitizer says of a std that is not built with it
-    python3 c/make.py --bench           and measures the library beside a mutex and beside gcc's transactional memory
+    python3 c/make.py --bench           and measures the library beside a mutex and beside gcc's transactional memory, by
+                                        each method of its library
     python3 c/make.py --behind-rt-ci    takes the libraries that rt ci has just proved and left as they are
     python3 c/make.py --archive FILE    builds and tests with this archive of the exports, and proves nothing
 
@@ -416,16 +417,10 @@ def by_pkg_config(room):
     call([f"{room}/installed", "tl2"], env={**os.environ, "LD_LIBRARY_PATH": f"{prefix}/lib"})
 
 
-def bench(room):
-    """Measures transactions beside a mutex and beside gcc's transactional memory."""
-    program = f"{room}/bench"
-    words = ["-std=gnu11", "-O2", "-fgnu-tm", f"-I{HERE}/include", "-o", program]
-    call([tool("gcc"), *words, f"{ROOT}/bench/c_library.c", f"{OUT}/libdstm.a", "-lpthread"])
-    for kind in ("move", "read"):
-        for threads in ("1", "2", "4"):
-            for what in ("mutex", "itm", "tl2", "polka"):
-                said = [call([program, what, kind, threads, "50000", "256"]).strip() for _ in range(3)]
-                print(f"c: {min(said, key=lambda it: float(it.split(',')[1].split()[0]))}", flush=True)
+def bench():
+    """Measures transactions beside a mutex and beside gcc's transactional memory, by each of its methods."""
+    tool("gcc")
+    print(call([sys.executable, f"{ROOT}/bench/c_library.py", "--library", f"{OUT}/libdstm.a"]), end="", flush=True)
 
 
 def main():
@@ -477,7 +472,7 @@ def main():
             if args.prefix:
                 steps.step("the installation", lambda: install(args.prefix))
             if args.bench:
-                steps.step("the benchmark", lambda: bench(room))
+                steps.step("the benchmark", bench)
     print(f"{steps.passed} passed, {steps.failed} failed, {steps.skipped} skipped", flush=True)
     return 1 if steps.failed or not (steps.passed or args.behind_rt_ci) else 0
 
