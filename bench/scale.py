@@ -17,6 +17,7 @@ LOADS = "readers256,readers4096,tree90,tree98,tree100,lists,reserve,own"
 CELLS = {"disjoint": 60000, "one": 60000, "bank": 60000, "reads": 40000}  # with the transactions of each
 BY = {"dstm": "polka", "tl2": "tl2"}
 THREADS = ("1", "2", "4")
+COMPUTING = {"chain": "each number from the one before it", "apart": "each number by itself"}
 PEERS = {"serial": [], "mutex": ["-DMUTEX", "-pthread"], "transactions": ["-DTRANSACTIONS", "-fgnu-tm", "-pthread"]}
 PROTOTYPES = {"proto": ("scale_proto.cc", ["-DPAUSE", "-DRYE=64", "-DEPOCH"], ["--zero", "copy"]),
               "proto_tl2": ("scale_proto_tl2.cc", [], [])}
@@ -24,6 +25,7 @@ PROTOTYPES = {"proto": ("scale_proto.cc", ["-DPAUSE", "-DRYE=64", "-DEPOCH"], ["
 
 def build(folder, prototypes):
     """Compiles the peers, and the prototypes whose sources stand in one of these folders."""
+    subprocess.run(["gcc", "-std=gnu11", "-O2", "-pthread", HERE / "peers/compute.c", "-o", folder / "compute"], check=True)
     for name, flags in PEERS.items():
         subprocess.run([*FLAGS, *flags, HERE / "scale_peer.cc", "-o", folder / name], check=True)
     found = [name for name, it in PROTOTYPES.items() if any((Path(at) / it[0]).is_file() for at in prototypes)]
@@ -84,6 +86,14 @@ def peers(folder, load, threads, measure, unit):
         yield method, lambda words=words, settings=settings: numbers(words, settings)[measure] / unit
 
 
+def computing(folder):
+    """What tells how long threads take that only compute."""
+    for kind in COMPUTING:
+        for threads in THREADS:
+            words = [folder / "compute", kind, threads]
+            yield (kind, threads, "compute"), lambda words=words: numbers(words)["span"]
+
+
 def times_of(runs, rounds, seconds):
     """The times of each run, and how many rounds there were. Each round makes all, in an order that is drawn; none begins after
     so many seconds."""
@@ -97,6 +107,15 @@ def times_of(runs, rounds, seconds):
             except RuntimeError as error:
                 print(f"# {error}", flush=True)
     return times, rounds
+
+
+def tell_gains(least):
+    """How many times as fast as one thread those are that only compute."""
+    for kind, what in COMPUTING.items():
+        alone = least.get((kind, "1", "compute"))
+        gains = [(threads, alone / least[kind, threads, "compute"]) for threads in THREADS[1:] if (kind, threads, "compute") in least]
+        if alone and gains:
+            print(f"threads that only compute, {what}: " + ", ".join(f"{gain:.2f} times on {threads}" for threads, gain in gains))
 
 
 def table(title, kinds, names, least):
@@ -137,12 +156,14 @@ def main():
                 runs.update({(load, threads, name): it for name, it in store_programs(given, folder, found, load, threads)})
             for kind in kinds:
                 runs.update({(kind, threads, name): it for name, it in cell_programs(given, folder, kind, threads)})
+        runs.update(computing(folder))
         times, rounds = times_of(runs, given.rounds, given.seconds)
     least = {at: (median if given.median else min)(them) for at, them in times.items()}
     told = "median" if given.median else "least"
     print(f"load average {os.getloadavg()[0]:.1f}, {os.cpu_count()} processors, {told} of {rounds} rounds")
     if given.raw:
         Path(given.raw).write_text(json.dumps([[*at, *them] for at, them in times.items()]))
+    tell_gains(least)
     print("milliseconds of the threads, and in brackets how many times as fast as one thread")
     names = ("dstm", "proto", "tl2", "proto_tl2", "serial", "mutex", "ml_wt", "gl_wt")
     table("load", loads, [name for name in names if name in found or name not in PROTOTYPES], least)
