@@ -130,15 +130,15 @@ static inline dstm_code dstm_memory_new(dstm_memory *memory, uint32_t threads, d
 static inline dstm_code dstm_memory_free(dstm_memory *memory) {
     return DSTM_CALL(memory, dstmc_memory_free(memory));
 }
-/* A new cell; at most 524,288, while no thread has a part: later ones come out of a pool (dstm_pool_new). BUSY, FULL,
-   MEMORY, CLOSED. */
+/* A new cell; at most 524,288, while no thread has a part: later ones come out of a pool (dstm_pool_new). They are
+   numbered from 0 on, in the order in which they are made. BUSY, FULL, MEMORY, SPENT, CLOSED. */
 static inline dstm_code dstm_cell_new(dstm_memory *memory, uint64_t low, uint64_t high, dstm_cell *cell) {
     return DSTM_CALL(memory && cell, dstmc_cell_new(memory, low, high, cell));
 }
 static inline dstm_code dstm_cell_new_u64(dstm_memory *memory, uint64_t low, dstm_cell *cell) {
     return DSTM_CALL(memory && cell, dstmc_cell_new(memory, low, 0, cell));
 }
-/* What a cell holds, while no thread has a part. BUSY, FOREIGN, MEMORY, CLOSED. */
+/* What a cell holds, while no thread has a part. BUSY, FOREIGN, MEMORY, SPENT, CLOSED. */
 static inline dstm_code dstm_peek(dstm_memory *memory, dstm_cell cell, uint64_t *low, uint64_t *high) {
     return DSTM_CALL(memory && low && high && low != high, dstmc_peek(memory, cell, low, high));
 }
@@ -146,12 +146,13 @@ static inline dstm_code dstm_peek_u64(dstm_memory *memory, dstm_cell cell, uint6
     uint64_t high;
     return DSTM_CALL(memory && low, dstmc_peek(memory, cell, low, &high));
 }
-/* A part for a thread. FULL: so many threads have parts; or, while one was always out, parts have come and gone: in a
-   row as many as threads are given out, and by TL2 up to 63. FULL, TAKEN, MEMORY, CLOSED. */
+/* A part for a thread. It is a call on the memory, too: threads that take parts by themselves do it under a lock of the
+   program's. FULL: so many threads have parts; or, while one was always out, parts have come and gone: in a row as many
+   as threads are given out, and by TL2 up to 63. FULL, TAKEN, MEMORY, SPENT, CLOSED. */
 static inline dstm_code dstm_thread_new(dstm_memory *memory, dstm_thread *thread) {
     return DSTM_CALL(memory && thread && (void *)memory != (void *)thread, dstmc_thread_new(memory, thread));
 }
-/* Gives a part back; a transaction under way is given up. CLOSED. */
+/* Gives a part back; a transaction under way is given up. It wants no lock. CLOSED. */
 static inline dstm_code dstm_thread_free(dstm_thread *thread) { return DSTM_CALL(thread, dstmc_thread_free(thread)); }
 
 /* TRANSACTIONS. What is read is of one moment, also in an attempt that comes to nothing. */
@@ -175,14 +176,16 @@ static inline dstm_code dstm_set_u64(dstm_thread *me, dstm_cell cell, uint64_t l
 }
 /* OK: the transaction took effect as a whole. Any other code: nothing of it did. AGAIN, IDLE, CLOSED. */
 static inline dstm_code dstm_commit(dstm_thread *me) { return DSTM_CALL(me, dstmc_commit(me)); }
-/* Gives the transaction up: nothing of it takes effect. IDLE, CLOSED. */
+/* Gives the transaction up: nothing of it takes effect. What it has read is of one moment all the same, and no number
+   is drawn, so that nobody who waits is woken: so a transaction that only reads may end by it. IDLE, CLOSED. */
 static inline dstm_code dstm_abort(dstm_thread *me) { return DSTM_CALL(me, dstmc_abort(me)); }
 
 /* WAITING, where a transaction cannot go on with what it has read. */
 
-/* One look. OK: nothing that the transaction has read has changed. AGAIN: something may have (by TL2, where any
-   transaction has committed since it began), or it was lost. After a look it can only look, begin again or be given
-   up. By DSTM the first look lets go of what it has set, which wants memory. MEMORY, SPENT, IDLE, CLOSED. */
+/* One look. OK: nothing that the transaction has read has changed. AGAIN: something may have (by TL2, where any number
+   was drawn since it began, as by a commit that has set nothing, too, or that fails behind its draw), or it was lost.
+   After a look it can only look, begin again or be given up. By DSTM the first look lets go of what it has set, which
+   wants memory. MEMORY, SPENT, IDLE, CLOSED. */
 static inline dstm_code dstm_look(dstm_thread *me) { return DSTM_CALL(me, dstmc_look(me)); }
 /* So many looks, and before each of them the processor is left to others. AGAIN: begin again. RETRY: nothing has
    changed for all of them; the transaction is given up. MEMORY, SPENT, IDLE, CLOSED. */
@@ -201,14 +204,16 @@ static inline dstm_code dstm_wait(dstm_thread *me, uint32_t looks) {
 
 /* ALTERNATIVES. */
 
-/* Marks what the transaction has set. AGAIN, IDLE, CLOSED. */
+/* Marks what the transaction has set. Where it is lost already, this and dstm_undo_to may still answer OK: what counts
+   is what the commit answers. AGAIN, IDLE, CLOSED. */
 static inline dstm_code dstm_mark(dstm_thread *me, uint64_t *mark) {
     return DSTM_CALL(me && mark, dstmc_mark(me, mark));
 }
 /* Undoes what was set since a mark of this transaction. What was read stays read. RANGE, AGAIN, IDLE, CLOSED. */
 static inline dstm_code dstm_undo_to(dstm_thread *me, uint64_t mark) { return DSTM_CALL(me, dstmc_undo_to(me, mark)); }
 
-/* What the loop below calls: a part of a transaction. It passes on each code that is not DSTM_OK. */
+/* What the loop below calls: a part of a transaction. It passes on each code that is not DSTM_OK, and ends by a return:
+   where longjmp or an exception leaves it, the transaction stays under way until dstm_abort. */
 typedef dstm_code (*dstm_body)(dstm_thread *me, void *with);
 
 /* Goes on by the first body, or by the second one where the first answers DSTM_RETRY: what that has set is undone. */

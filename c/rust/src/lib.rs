@@ -226,7 +226,8 @@ pub enum Engine {
 pub trait Word: Copy {
     /// The words that keep it.
     fn to_words(self) -> (u64, u64);
-    /// What such words keep.
+    /// What such words keep. It is called with any two words that a cell holds, also such as no `to_words` of this type
+    /// has made: those of a cell that was given back to its pool, or that another type has named.
     fn from_words(low: u64, high: u64) -> Self;
 }
 
@@ -388,7 +389,8 @@ impl Memory {
     }
 
     /// A part for a thread. `Full`: so many threads have parts; or, while one was always out, parts have come and gone:
-    /// in a row as many as threads are given out, and by TL2 up to 63.
+    /// in a row as many as threads are given out, and by TL2 up to 63. One that `mem::forget` takes is never given
+    /// back: `cell` and `get` of its memory panic then.
     pub fn thread(&self) -> Result<Thread<'_>, Error> {
         let mut handle = CLOSED;
         done(unsafe { dstmc_thread_new(&mut self.handle.lock(), &mut handle) })?;
