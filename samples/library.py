@@ -3,14 +3,14 @@
 
     python3 samples/library.py
 
-A block of code on README.md, docs/LIBRARY.md or c/README.md has a comment before it that names its source:
+A block of code on a page has a comment before it that names its source:
 
     <!-- crates/example_counter/src/main.rt -->
 
 Its lines then stand in this file one behind the other, but for a common indentation (and, in Rust, for the `//!` before
 a page that is tested). A line of it that is only `..` or `// ..` stands for any lines of the file. A block of a line or
-two that is of no program has `<!-- of no program -->`. It writes each block that differs and each that names no source;
-pictures are no code.
+two that is of no program has `<!-- of no program -->`, and a text or a picture that is made of characters `<!-- a text -->`
+or `<!-- a picture -->`. It writes each block that differs and each that names no source; pictures by mermaid are no code.
 """
 
 import re
@@ -19,8 +19,9 @@ from pathlib import Path
 from textwrap import dedent
 
 TOP = Path(__file__).resolve().parent.parent
-PAGES = ["README.md", "docs/LIBRARY.md", "c/README.md"]
+PAGES = ["README.md", "docs/*.md", "c/README.md", "bench/*.md", "edits/README.md"]
 OF_NO_PROGRAM = "of no program"
+NO_CODE = ("a text", "a picture")
 
 
 def blocks_of(page):
@@ -90,17 +91,18 @@ def difference(lines, path):
 
 def main():
     compared, differ, without = 0, 0, 0
-    for page in PAGES:
-        for line, named, lines in blocks_of((TOP / page).read_text(encoding="utf-8")):
+    for page in [page for pages in PAGES for page in sorted(TOP.glob(pages))]:
+        for line, named, lines in blocks_of(page.read_text(encoding="utf-8")):
+            page_line = f"{page.relative_to(TOP)}:{line}"
             if not named or (named == OF_NO_PROGRAM and len(lines) > 2):
                 without += 1
-                print(f"{page}:{line}: names no source")
-            elif named != OF_NO_PROGRAM:
+                print(f"{page_line}: names no source")
+            elif named not in (OF_NO_PROGRAM, *NO_CODE):
                 compared += 1
                 told = difference(lines, TOP / named)
                 if told:
                     differ += 1
-                    print(f"{page}:{line}: {named}: {told}")
+                    print(f"{page_line}: {named}: {told}")
     print(f"{compared} compared, {differ} differ" + f", {without} name no source" * bool(without))
     return differ + without > 0
 
