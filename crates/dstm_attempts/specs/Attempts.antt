@@ -234,9 +234,10 @@ module _ {L : Type 0} where
     IsOver writes o (Tl2 old) (Tl2 new) = by_tl2.IsOver holds (Opening o) old new
     IsOver writes o old new = ⊥
 
+    -- an attempt is over; or there is no such object, and nothing was done
     abbrev pub NotOpenedFor : (writes : Bool) → ℕ → Caller L → Caller L → NotOpened → Type 0
     NotOpenedFor writes o old new Over = IsClosed new × IsOver writes o old new
-    NotOpenedFor writes o old new Foreign = objects_of old ≤ o
+    NotOpenedFor writes o old new Foreign = (objects_of old ≤ o) × (new ≡ old)
 
     -- WHY AN OBJECT WAS NOT OPENED, and what this leaves
     pub record IsNotOpened (writes : Bool) (o : ℕ) (old new : Caller L) (answer : NotOpened) : Type 0 where

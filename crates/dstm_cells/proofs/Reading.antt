@@ -27,7 +27,7 @@ module _ {L : Type 0} (holds : L → List Val → Type 0) where
   stops_reading object objects k last n Retry before keeps all below stops = absurd stops
   stops_reading object objects k last n Foreign before keeps all below stops =
       let same = same_objects k last (adds_nothing k last keeps).home in
-      let past : objects_of last ≤ object = stops.why in
+      let past : objects_of last ≤ object = stops.why.0 in
       absurd (omega (arith, same, all, below, past))
   stops_reading object objects k last n Memory before keeps all below stops = absurd stops
 

@@ -15,7 +15,8 @@ use Rattle.dstm_cells.specs.declared.error.GaveUp.TheVariants.{Spent}
 use Rattle.dstm_cells.specs.declared.memory.Ended.{Ended}
 use Rattle.dstm_cells.specs.declared.memory.Seat.{Seat}
 use Rattle.dstm_cells.specs.declared.thread.Part.{Part}
-use Rattle.dstm_cells.specs.declared.under_way.Tx.{Tx}
+use Rattle.dstm_cells.specs.declared.under_way.Attempt.{Attempt as Tx}
+use Rattle.dstm_cells.specs.declared.holds.Holds.{Ghosts as Holding}
 use Rattle.dstm_model.specs.declared.value.Law.{Ghosts}
 use Rattle.dstm_model.specs.declared.value.Val.{Val}
 use Rattle.dstm_engine.specs.Tables as dstm
@@ -76,22 +77,22 @@ one_made holds (founder.Tl2 f) (founder.Tl2 g) seed (caller.Dstm k) enrols = abs
 one_made holds (founder.Dstm f) (founder.Tl2 g) seed k enrols = absurd enrols
 one_made holds (founder.Tl2 f) (founder.Dstm g) seed k enrols = absurd enrols
 
-module _ {L : Type 0} {ghosts : Ghosts L} (seats : List (Seat L ghosts)) where
+module _ {L S : Type 0} {ghosts : Ghosts L} {holding : Holding S L} (seats : List (Seat (Tx L S ghosts holding))) where
   -- a run whose values were taken has left them, however its threads have ended
   pub ran_leaves : (ran same : Type 0) (answer : Result (Unit {0}) Failed) → IfErr answer (IsFirst seats) → ran →
       LeavesBy ran same answer
   ran_leaves ran same (Ok x) first left = left
   ran_leaves ran same (Err why) first left = subst (λ w. LeavesBy {X = Unit {0}} ran same (Err w)) (sym first.is) left
 
-  module _ (left : List (Seat L ghosts)) (threads : ℕ) (same : (seats ≡ left) × (length seats ≡ threads))
-      (ended : ℕ → End (Unit {0}) → Type 0) (other : Seat L ghosts)
+  module _ (left : List (Seat (Tx L S ghosts holding))) (threads : ℕ) (same : (seats ≡ left) × (length seats ≡ threads))
+      (ended : ℕ → End (Unit {0}) → Type 0) (other : Seat (Tx L S ghosts holding))
       (each : (number : ℕ) → number < threads → ended number (slice_index_or left number other).ended) where
     at_seat : (number : ℕ) → number < threads → ended number (slice_index_or seats number other).ended
     at_seat number below =
-        subst (λ (xs : List (Seat L ghosts)). ended number (slice_index_or xs number other).ended) (sym same.0) (each number below)
+        subst (λ (xs : List (Seat (Tx L S ghosts holding))). ended number (slice_index_or xs number other).ended) (sym same.0) (each number below)
 
     -- all threads have ended well where their seats tell so
-    all_ended : All (λ (seat : Seat L ghosts). seat.ended ≡ Ok tt) seats → (number : ℕ) → number < threads →
+    all_ended : All (λ (seat : Seat (Tx L S ghosts holding)). seat.ended ≡ Ok tt) seats → (number : ℕ) → number < threads →
         ended number (Ok tt)
     all_ended well number below = subst (ended number) (well number other (omega (arith, same.1, below))) (at_seat number below)
 
@@ -110,7 +111,7 @@ module _ {L : Type 0} {ghosts : Ghosts L} (seats : List (Seat L ghosts)) where
 
     -- what a run tells of its threads
     pub told : (unread : Type 0) (answer : Result (Unit {0}) Failed) →
-        OnOk answer (All (λ (seat : Seat L ghosts). seat.ended ≡ Ok tt) seats) → IfErr answer (IsFirst seats) →
+        OnOk answer (All (λ (seat : Seat (Tx L S ghosts holding)). seat.ended ≡ Ok tt) seats) → IfErr answer (IsFirst seats) →
         OnOk answer ((number : ℕ) → number < threads → ended number (Ok tt)) × IfErr answer (FailsFor ended unread threads)
     told unread (Ok x) well first = (all_ended well, tt)
     told unread (Err why) well first = (tt, first_ended unread why first)
@@ -257,9 +258,10 @@ pub stands_behind : {L : Type 0} (bound : ℕ) (newest : Option ℕ) (k : Caller
 stands_behind bound newest k up_to less number other within =
     let below = up_to.up_to number other within in omega (arith, below, less)
 
-module _ {L F T : Type 0} {ghosts : Ghosts L}
-    (g : Shared F (MutBor (Part (Tx L ghosts)) × (ℕ × Unit {0})) (End T × (MutBor (Part (Tx L ghosts)) × Unit {0}))) (f : F) where
-  pub was_called : (number : ℕ) (p q : MutBor (Part (Tx L ghosts))) (ended : Ended T) →
+module _ {L S F T : Type 0} {ghosts : Ghosts L} {holding : Holding S L}
+    (g : Shared F (MutBor (Part (Tx L S ghosts holding)) × (ℕ × Unit {0}))
+    (End T × (MutBor (Part (Tx L S ghosts holding)) × Unit {0}))) (f : F) where
+  pub was_called : (number : ℕ) (p q : MutBor (Part (Tx L S ghosts holding))) (ended : Ended T) →
       g.post f (p, (number, tt)) (ended.end, (q, tt)) → IsTold g f ended q.now.tx.attempts.caller → WasCalled g f number p.now ended
   was_called number p q ended met told = (q.now, record { shown = p; shows = refl; left = q; met = met; leaves = refl }, told)
 
@@ -269,9 +271,9 @@ module _ {L F T : Type 0} {ghosts : Ghosts L}
     CalledUpTo number end ended = (on : CalledOn holds g f table number end) × IsTold g f ended on.ended.tx.attempts.caller
 
     -- so it was called with each number
-    pub each_called : (seats : List (Seat L ghosts)) (ends : List (Ended T)) (threads : ℕ) → length seats ≡ threads →
+    pub each_called : (seats : List (Seat (Tx L S ghosts holding))) (ends : List (Ended T)) (threads : ℕ) → length seats ≡ threads →
         length ends ≡ threads → HaveNew holds table seats → AreNumbered seats →
-        ((number : ℕ) → number < length seats → (job : Seat L ghosts) × (slice_index_or seats number job ≡ job)
+        ((number : ℕ) → number < length seats → (job : Seat (Tx L S ghosts holding)) × (slice_index_or seats number job ≡ job)
         × WasCalled g f job.number job.me (slice_index_or ends number no_end)) → (number : ℕ) → number < threads →
         CalledUpTo number (slice_index_or (ends_of ends) number (Err Spent)) (slice_index_or ends number no_end)
     each_called seats ends threads all many new numbered calls number below =
@@ -281,10 +283,10 @@ module _ {L F T : Type 0} {ghosts : Ghosts L}
         let (left, was, told) = call in
         let on : CalledOn holds g f table number ended.end = record {
           began = job.me;
-          new = subst (λ (seat : Seat L ghosts). IsNew holds table number seat.me.tx.attempts.caller) is (new number job within);
+          new = subst (λ (seat : Seat (Tx L S ghosts holding)). IsNew holds table number seat.me.tx.attempts.caller) is (new number job within);
           ended = left;
           call = subst (λ n. IsCalled g f n job.me ended.end left)
-              (ap (λ (seat : Seat L ghosts). seat.number) (sym is) ∙ numbered number job within) was;
+              (ap (λ (seat : Seat (Tx L S ghosts holding)). seat.number) (sym is) ∙ numbered number job within) was;
         } in
         subst (λ end. CalledUpTo number end ended)
         (sym (get_or-map (λ (e : Ended T). e.end) ends number no_end (Err Spent) (omega (arith, many, below)))) (on, told)
@@ -328,8 +330,9 @@ pub all_counts : {T : Type 0} (ends : List (Ended T)) (own : ℕ) → sum (count
 all_counts ends own = ap (λ n. n + own) (sum-map (λ (ended : Ended _). ended.draws) ends)
 
 -- a run whose last caller has read its table, behind the threads or not
-module _ {L F T : Type 0} {ghosts : Ghosts L}
-    (g : Shared F (MutBor (Part (Tx L ghosts)) × (ℕ × Unit {0})) (End T × (MutBor (Part (Tx L ghosts)) × Unit {0}))) (f : F)
+module _ {L S F T : Type 0} {ghosts : Ghosts L} {holding : Holding S L}
+    (g : Shared F (MutBor (Part (Tx L S ghosts holding)) × (ℕ × Unit {0}))
+    (End T × (MutBor (Part (Tx L S ghosts holding)) × Unit {0}))) (f : F)
     (holds : L → List Val → Type 0) {engine : Engine} {rule : L} {before : List Val} {table : Table L} {founder : Founder L}
     (left : Founder L) (caller : Caller L) (founds : Founds rule before table founder) (works : WorksBy engine table)
     (enrols : Enrols holds founder left 0 caller) (ends : List (Ended T)) (threads : ℕ) (room : callers_there table ≡ threads + 1)
@@ -426,8 +429,9 @@ failed_leaves answer Y ran same failed.Foreign left = left
 pub answers_nothing : (x : Unit {0}) → x ≡ tt
 answers_nothing x = refl
 
-module _ {L F T : Type 0} {ghosts : Ghosts L} (holds : L → List Val → Type 0)
-    (g : Shared F (MutBor (Part (Tx L ghosts)) × (ℕ × Unit {0})) (End T × (MutBor (Part (Tx L ghosts)) × Unit {0}))) (f : F)
+module _ {L S F T : Type 0} {ghosts : Ghosts L} {holding : Holding S L} (holds : L → List Val → Type 0)
+    (g : Shared F (MutBor (Part (Tx L S ghosts holding)) × (ℕ × Unit {0}))
+    (End T × (MutBor (Part (Tx L S ghosts holding)) × Unit {0}))) (f : F)
     (engine : Engine) (rule : L) (values : List Val) (threads : ℕ) (after : List Val) where
   -- what follows from what is told of its ends is told of them too
   pub tells_more : {told more : (ℕ → End T) → Type 0} → ((ends : ℕ → End T) → told ends → more ends) →
@@ -485,7 +489,7 @@ module _ {L : Type 0} (step : Founder L → Founder L → ℕ → Caller L → T
       let same : suc count ≡ next = omega (arith, is) in
       subst (λ n. InTurn step n f callers g) same more
 
-  module _ {ghosts : Ghosts L} (seats : List (Seat L ghosts)) (seat other : Seat L ghosts) where
+  module _ {S : Type 0} {ghosts : Ghosts L} {holding : Holding S L} (seats : List (Seat (Tx L S ghosts holding))) (seat other : Seat (Tx L S ghosts holding)) where
     -- the next one of the callers of seats
     pub in_turn_push : (f m g : Founder L) → InTurn step (length seats) f (caller_at seats other) m →
         step m g (length seats) seat.me.tx.attempts.caller →
@@ -494,9 +498,9 @@ module _ {L : Type 0} (step : Founder L → Founder L → ℕ → Caller L → T
         let all = seats ++ seat ∷ [] in
         in_turn_next (length seats) (length all) f m g (caller_at all other)
         (in_turn_by (length seats) f m (caller_at seats other) (caller_at all other)
-        (λ number below. ap (λ (s : Seat L ghosts). s.me.tx.attempts.caller) (sym (get_or-append seats (seat ∷ []) other number below)))
+        (λ number below. ap (λ (s : Seat (Tx L S ghosts holding)). s.me.tx.attempts.caller) (sym (get_or-append seats (seat ∷ []) other number below)))
         before)
-        (subst (step m g (length seats)) (ap (λ (s : Seat L ghosts). s.me.tx.attempts.caller) (sym (at_length seats [] seat other))) one)
+        (subst (step m g (length seats)) (ap (λ (s : Seat (Tx L S ghosts holding)). s.me.tx.attempts.caller) (sym (at_length seats [] seat other))) one)
         (length_push seats seat)
 
 -- so many were given out by the founder of a new table

@@ -7,7 +7,8 @@ use Rattle.dstm_model.specs.declared.value.Val.{Val}
 use Rattle.dstm_tables.specs.declared.tables.Caller.{Caller}
 use Rattle.dstm_cells.specs.declared.error.Stop.{Stop}
 use Rattle.dstm_cells.specs.declared.error.Why.TheVariants.{Retry}
-use Rattle.dstm_cells.specs.declared.under_way.Tx.{Tx}
+use Rattle.dstm_cells.specs.declared.under_way.Attempt.{Attempt as Tx}
+use Rattle.dstm_cells.specs.declared.holds.Holds.{Ghosts as Holding}
 use Rattle.dstm_cells.specs.declared.under_way.Undo.{Undo}
 use Rattle.dstm_attempts.specs.Attempts.{IsStill, Opens}
 use Rattle.dstm_cells.specs.UnderWay.{Keeps, MayBegin, StopsChange, seen, stop_by}
@@ -25,7 +26,7 @@ pub record Noting (L : Type 0) : Type 0 where
   pub looks : ℕ
 
 module _ {L : Type 0} where
-  abbrev pub noting : {ghosts : Ghosts L} → Tx L ghosts → Noting L
+  abbrev pub noting : {S : Type 0} {ghosts : Ghosts L} {holding : Holding S L} → Tx L S ghosts holding → Noting L
   noting tx = record { caller = tx.attempts.caller; notes = tx.notes; undos = tx.undos.items; looks = tx.looks }
 
   -- whether it notes what it sets, and how often it looks

@@ -20,7 +20,8 @@ use Rattle.dstm_cells.specs.declared.error.GaveUp.{GaveUp}
 use Rattle.dstm_cells.specs.declared.memory.Ended.{Ended}
 use Rattle.dstm_cells.specs.declared.memory.Seat.{Seat}
 use Rattle.dstm_cells.specs.declared.thread.Part.{Part}
-use Rattle.dstm_cells.specs.declared.under_way.Tx.{Tx}
+use Rattle.dstm_cells.specs.declared.under_way.Attempt.{Attempt as Tx}
+use Rattle.dstm_cells.specs.declared.holds.Holds.{Ghosts as Holding}
 use Rattle.dstm_cells.specs.Cells.{LeavesUnread, Starts, Takes}
 
 -- how a thread ended, and with which answer
@@ -78,38 +79,40 @@ module _ {T : Type 0} where
   abbrev pub FailsByFirst : {X : Type 0} (ends : ℕ → End T) (threads : ℕ) → Result X Failed → Type 0
   FailsByFirst ends threads answer = IfErr answer (FailsFor (λ number end. ends number ≡ end) ⊥ threads)
 
-module _ {L : Type 0} where
+module _ {X : Type 0} where
   -- the seat of this number tells that its thread has ended so
-  abbrev pub SeatEnded : {ghosts : Ghosts L} → List (Seat L ghosts) → ℕ → End (Unit {0}) → Type 0
-  SeatEnded {ghosts} seats number end = (other : Seat L ghosts) → (slice_index_or seats number other).ended ≡ end
+  abbrev pub SeatEnded : List (Seat X) → ℕ → End (Unit {0}) → Type 0
+  SeatEnded seats number end = (other : Seat X) → (slice_index_or seats number other).ended ≡ end
 
   -- that is how the first one ended that did not end well, by what the seats tell
-  pub record IsFirst {ghosts : Ghosts L} (seats : List (Seat L ghosts)) (failure : Failed) : Type 0 where
+  pub record IsFirst (seats : List (Seat X)) (failure : Failed) : Type 0 where
     pub why : GaveUp
     pub is : failure ≡ failed.GaveUp why
     pub first : FirstEnded (SeatEnded seats) (length seats) why
 
   -- each seat has its number
-  abbrev pub AreNumbered : {ghosts : Ghosts L} → List (Seat L ghosts) → Type 0
-  AreNumbered {ghosts} seats =
-      (number : ℕ) (other : Seat L ghosts) → number < length seats → (slice_index_or seats number other).number ≡ number
+  abbrev pub AreNumbered : List (Seat X) → Type 0
+  AreNumbered seats =
+      (number : ℕ) (other : Seat X) → number < length seats → (slice_index_or seats number other).number ≡ number
 
-  -- the caller of the seat of this number
-  abbrev pub caller_at : {ghosts : Ghosts L} → List (Seat L ghosts) → (other : Seat L ghosts) → ℕ → Caller L
-  caller_at seats other number = (slice_index_or seats number other).me.tx.attempts.caller
+module _ {L : Type 0} where
+  module _ {S : Type 0} {ghosts : Ghosts L} {holding : Holding S L} where
+    -- the caller of the seat of this number
+    abbrev pub caller_at : List (Seat (Tx L S ghosts holding)) → (other : Seat (Tx L S ghosts holding)) → ℕ → Caller L
+    caller_at seats other number = (slice_index_or seats number other).me.tx.attempts.caller
 
-  -- each seat has a part of this table
-  abbrev pub AreAt : {ghosts : Ghosts L} → Table L → List (Seat L ghosts) → Type 0
-  AreAt {ghosts} table seats =
-      (number : ℕ) (other : Seat L ghosts) → number < length seats → home_of (caller_at seats other number) ≡ table
+    -- each seat has a part of this table
+    abbrev pub AreAt : Table L → List (Seat (Tx L S ghosts holding)) → Type 0
+    AreAt table seats =
+        (number : ℕ) (other : Seat (Tx L S ghosts holding)) → number < length seats → home_of (caller_at seats other number) ≡ table
 
-  -- the work of this number was done on a seat: this is known of how it has ended and of what it has done, and the part that it has
-  -- left is of the same table
-  abbrev pub IsWorked : {ghosts : Ghosts L} → (ends : ℕ → End (Unit {0}) → Type 0) (does : ℕ → Caller L → Caller L → Type 0)
-      (number : ℕ) (old new : Seat L ghosts) → Type 0
-  IsWorked ends does number old new =
-      ends number new.ended × does number old.me.tx.attempts.caller new.me.tx.attempts.caller
-      × (home_of new.me.tx.attempts.caller ≡ home_of old.me.tx.attempts.caller)
+    -- the work of this number was done on a seat: this is known of how it has ended and of what it has done, and the part that it has
+    -- left is of the same table
+    abbrev pub IsWorked : (ends : ℕ → End (Unit {0}) → Type 0) (does : ℕ → Caller L → Caller L → Type 0)
+        (number : ℕ) (old new : Seat (Tx L S ghosts holding)) → Type 0
+    IsWorked ends does number old new =
+        ends number new.ended × does number old.me.tx.attempts.caller new.me.tx.attempts.caller
+        × (home_of new.me.tx.attempts.caller ≡ home_of old.me.tx.attempts.caller)
 
   -- callers of these numbers were given out or taken back, one after the other, from the first founder to the last
   abbrev pub InTurn : (Founder L → Founder L → ℕ → Caller L → Type 0) → (count : ℕ) → Founder L → (ℕ → Caller L) → Founder L → Type 0
@@ -125,23 +128,24 @@ module _ {L : Type 0} where
     abbrev pub TakesBackEach : (count : ℕ) → Founder L → (ℕ → Caller L) → Founder L → Type 0
     TakesBackEach = InTurn (λ f g number k. Retires holds f g k)
 
-    -- these are the callers of the seats, in their order
-    abbrev pub GivesOutSeats : {ghosts : Ghosts L} → Founder L → List (Seat L ghosts) → Founder L → Type 0
-    GivesOutSeats {ghosts} f seats g = (other : Seat L ghosts) → GivesOutEach (length seats) f (caller_at seats other) g
-
-    abbrev pub TakesBackSeats : {ghosts : Ghosts L} → Founder L → List (Seat L ghosts) → Founder L → Type 0
-    TakesBackSeats {ghosts} f seats g = (other : Seat L ghosts) → TakesBackEach (length seats) f (caller_at seats other) g
-
     -- a new caller of the table, with this seed
     pub record IsNew (table : Table L) (seed : ℕ) (k : Caller L) : Type 0 where
       pub home : home_of k ≡ table
       pub enrols : (f g : Founder L) × Enrols holds f g seed k
 
-    -- each seat has a new part of the table, with its number as the seed
-    abbrev pub HaveNew : {ghosts : Ghosts L} → Table L → List (Seat L ghosts) → Type 0
-    HaveNew {ghosts} table seats =
-        (number : ℕ) (other : Seat L ghosts) → number < length seats →
-        IsNew table number (slice_index_or seats number other).me.tx.attempts.caller
+    module _ {S : Type 0} {ghosts : Ghosts L} {holding : Holding S L} where
+      -- these are the callers of the seats, in their order
+      abbrev pub GivesOutSeats : Founder L → List (Seat (Tx L S ghosts holding)) → Founder L → Type 0
+      GivesOutSeats f seats g = (other : Seat (Tx L S ghosts holding)) → GivesOutEach (length seats) f (caller_at seats other) g
+
+      abbrev pub TakesBackSeats : Founder L → List (Seat (Tx L S ghosts holding)) → Founder L → Type 0
+      TakesBackSeats f seats g = (other : Seat (Tx L S ghosts holding)) → TakesBackEach (length seats) f (caller_at seats other) g
+
+      -- each seat has a new part of the table, with its number as the seed
+      abbrev pub HaveNew : Table L → List (Seat (Tx L S ghosts holding)) → Type 0
+      HaveNew table seats =
+          (number : ℕ) (other : Seat (Tx L S ghosts holding)) → number < length seats →
+          IsNew table number (slice_index_or seats number other).me.tx.attempts.caller
 
     -- of a table that was made of these values, and works by this engine, this holds: of its founder, with nobody on it yet,
     -- and of what became of it
@@ -187,25 +191,27 @@ module _ {S F R : Type 0} (g : Shared F (MutBor S × (ℕ × Unit {0})) (R × (M
 abbrev pub ends_of : {T : Type 0} → List (Ended T) → List (End T)
 ends_of calls = map (λ call. call.end) calls
 
-module _ {L F T : Type 0} {ghosts : Ghosts L}
-    (g : Shared F (MutBor (Part (Tx L ghosts)) × (ℕ × Unit {0})) (End T × (MutBor (Part (Tx L ghosts)) × Unit {0}))) (f : F) where
+module _ {L S F T : Type 0} {ghosts : Ghosts L} {holding : Holding S L}
+    (g : Shared F (MutBor (Part (Tx L S ghosts holding)) × (ℕ × Unit {0}))
+    (End T × (MutBor (Part (Tx L S ghosts holding)) × Unit {0}))) (f : F) where
   -- what is told of a thread's part is so: up to which number it has committed, and how many it has drawn
   abbrev pub IsTold : Ended T → Caller L → Type 0
   IsTold ended k = CommitsUpTo ended.newest k × (draws_of k ≡ ended.draws)
 
   -- the closure was called on this part with its number, and its thread has ended so; what is told of the part that it has left
   -- is so
-  abbrev pub WasCalled : (number : ℕ) (began : Part (Tx L ghosts)) (ended : Ended T) → Type 0
+  abbrev pub WasCalled : (number : ℕ) (began : Part (Tx L S ghosts holding)) (ended : Ended T) → Type 0
   WasCalled number began ended =
-      (left : Part (Tx L ghosts)) × IsCalled g f number began ended.end left × IsTold ended left.tx.attempts.caller
+      (left : Part (Tx L S ghosts holding)) × IsCalled g f number began ended.end left × IsTold ended left.tx.attempts.caller
 
-module _ {L F T : Type 0} {ghosts : Ghosts L} (holds : L → List Val → Type 0)
-    (g : Shared F (MutBor (Part (Tx L ghosts)) × (ℕ × Unit {0})) (End T × (MutBor (Part (Tx L ghosts)) × Unit {0}))) (f : F) where
+module _ {L S F T : Type 0} {ghosts : Ghosts L} {holding : Holding S L} (holds : L → List Val → Type 0)
+    (g : Shared F (MutBor (Part (Tx L S ghosts holding)) × (ℕ × Unit {0}))
+    (End T × (MutBor (Part (Tx L S ghosts holding)) × Unit {0}))) (f : F) where
   -- the closure was called with this number and answered this, on a new part of this table
   pub record CalledOn (table : Table L) (number : ℕ) (end : End T) : Type 0 where
-    pub began : Part (Tx L ghosts)
+    pub began : Part (Tx L S ghosts holding)
     pub new : IsNew holds table number began.tx.attempts.caller
-    pub ended : Part (Tx L ghosts)
+    pub ended : Part (Tx L S ghosts holding)
     pub call : IsCalled g f number began end ended
 
   module _ (engine : Engine) (rule : L) (values : List Val) where

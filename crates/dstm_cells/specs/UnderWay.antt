@@ -25,6 +25,11 @@ module _ {L : Type 0} where
     pub over : is_under_way k ≡ false → answer ≡ Err (stop_by Again)
     pub foreign : goes_on k ≡ true → objects_of k ≤ o → answer ≡ Err (stop_by Foreign)
 
+  -- The same, where the answer is the cause itself.
+  pub record RefusesFor {T : Type 0} (k : Caller L) (o : ℕ) (answer : Result T Why) : Type 0 where
+    pub over : is_under_way k ≡ false → answer ≡ Err Again
+    pub foreign : goes_on k ≡ true → objects_of k ≤ o → answer ≡ Err Foreign
+
   module _ (holds : L → List Val → Type 0) where
     -- WHY A CALL THAT LOOKS AT AN OBJECT STOPS, and what it leaves: it never retries, and notes nothing
     abbrev pub StopsLook : ℕ → Caller L → Caller L → Why → Type 0

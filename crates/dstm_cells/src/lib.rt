@@ -3,11 +3,15 @@
 #![tactic(auto)]
 
 mod alternatives;
+mod back_off;
 mod cell;
 mod error;
+mod holds;
 mod memory;
+mod owned;
 mod thread;
 mod transaction;
+mod turn;
 mod tx;
 mod under_way;
 mod work;
@@ -15,9 +19,12 @@ mod work;
 pub use alternatives::or_else;
 pub use cell::{Cell, Word};
 pub use dstm_tables::{Engine, Manager};
-pub use error::{Failed, GaveUp, Stop};
+pub use error::{Failed, GaveUp, Stop, Why};
+pub use holds::Holds;
 pub use memory::{MOST_CELLS, MOST_THREADS, Memory};
+pub use owned::Owned;
 pub use thread::{Me, Part};
+pub use turn::{Courtesy, Ticket, Turn};
 pub use tx::{ensure, retry};
-pub use under_way::Tx;
+pub use under_way::{Attempt, Tx, Undo};
 pub use work::Work;

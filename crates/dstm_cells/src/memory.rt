@@ -15,7 +15,8 @@ ghost use Rattle.dstm_tables.specs.declared.engine.Engine.TheVariants.{Dstm, Tl2
 use crate::cell::{Cell, Word};
 use crate::error::{Failed, GaveUp};
 use crate::thread::{Me, Part};
-use crate::under_way::Tx;
+use crate::turn::Turn;
+use crate::under_way::{Attempt, Tx};
 use crate::work::Work;
 use dstm_model::{AnyLaw, Law, Val};
 use dstm_tables::{Engine, EnrolError, Founder, MOST_OBJECTS, Manager, Table, make};
@@ -41,8 +42,8 @@ pub struct Memory<L: Law = AnyLaw> {
 
 // A thread's part in a run, its number, and how it ended.
 #[derive(Drop)]
-struct Seat<'a, L: Law> {
-    me: Me<'a, L>,
+struct Seat<'a, X> {
+    me: Part<'a, X>,
     number: usize,
     ended: Result<(), GaveUp>,
 }
@@ -173,9 +174,7 @@ impl<L: Law + Copy> Memory<L> {
         ensures same { IfErr result (λ _. founder.new ≡ founder.old) }
     {
         match founder.caller(self.alloc, table, seed) {
-            Ok(caller) => Ok(Part {
-                tx: Tx::new(self.alloc, caller, table),
-            }),
+            Ok(caller) => Ok(Part::of(Attempt::new(self.alloc, caller, table))),
             Err(EnrolError::Memory(error)) => Err(Failed::from(error)),
             Err(EnrolError::Full) => Err(Failed::Threads),
         }
@@ -249,8 +248,8 @@ impl<L: Law + Copy> Memory<L> {
         ensures table { home_there founder.new ≡ table.now }
         ensures retired { Retires L.holds founder.old founder.new me.entry.tx.attempts.caller }
     {
-        let Part { tx } = me;
-        let Tx { attempts, .. } = tx;
+        let Part { tx, .. } = me;
+        let Attempt { attempts, .. } = tx;
         founder.retire(table, attempts.into_caller());
     }
 
@@ -271,13 +270,14 @@ impl<L: Law + Copy> Memory<L> {
         Ok(())
     }
 
-    // Gives out so many seats of the table.
+    // Gives out so many seats of the table, which share a turn.
     fn seats<'a>(
         &self,
         table: &'a Table<L>,
         founder: &mut Founder<L>,
+        turn: &'a Turn,
         count: u32,
-    ) -> Result<Vec<Seat<'a, L>>, Failed>
+    ) -> Result<Vec<Seat<'a, Tx<'a, L>>>, Failed>
         requires table { home_there founder.old ≡ table.now }
         requires room { made_of founder.old + count ≤ callers_there table.now }
         ensures count { IfOk result (λ seats. length seats.items ≡ count) }
@@ -290,7 +290,7 @@ impl<L: Law + Copy> Memory<L> {
         let mut seats = Vec::with_capacity(self.alloc, count as usize)?;
         for seed in 0..count {
             seats.push(Seat {
-                me: self.part(table, founder, u64::from(seed))?,
+                me: self.part(table, founder, u64::from(seed))?.with_turn(turn),
                 number: seed as usize,
                 ended: Ok(()),
             })?;
@@ -299,7 +299,12 @@ impl<L: Law + Copy> Memory<L> {
     }
 
     // Takes the parts of all seats back.
-    fn retire_all(&self, table: &Table<L>, founder: &mut Founder<L>, seats: Vec<Seat<'_, L>>)
+    fn retire_all(
+        &self,
+        table: &Table<L>,
+        founder: &mut Founder<L>,
+        seats: Vec<Seat<'_, Tx<'_, L>>>,
+    )
         requires table { home_there founder.old ≡ table.now }
         requires parts { AreAt table.now seats.items }
         ensures table { home_there founder.new ≡ table.now }
@@ -335,12 +340,13 @@ impl<L: Law + Copy + Sync> Memory<L> {
             (λ back last. Takes L.holds back last self.new.values.items)) (self.new ≡ self.old) result }
     {
         let (table, mut founder) = self.found(threads)?;
-        let mut seats = self.seats(&table, &mut founder, threads)?;
+        let turn = Turn::new();
+        let mut seats = self.seats(&table, &mut founder, &turn, threads)?;
         for_each_mut(
             rt,
             &mut seats,
             threads as usize,
-            &|number, seat: &mut Seat<'_, L>|
+            &|number, seat: &mut Seat<'_, Tx<'_, L>>|
                 ensures { IsWorked (W.ends work.entry.now) (W.does work.entry.now) number seat.entry.now seat.exit.now }
             { seat.ended = work.work(&mut seat.me, number) },
         );
@@ -407,11 +413,12 @@ impl Memory {
         let (table, mut founder) = self.found(threads)?;
         let mut reader = self.part(&table, &mut founder, 0)?;
         let answers = Vec::with_capacity(self.alloc, threads as usize)?;
-        let seats = self.seats(&table, &mut founder, threads)?;
+        let turn = Turn::new();
+        let seats = self.seats(&table, &mut founder, &turn, threads)?;
         let ends = map_vec(
             rt,
             seats,
-            &|seat: Seat<'_, AnyLaw>|
+            &|seat: Seat<'_, Tx<'_>>|
                 requires { F.IsAlwaysCallable f }
                 ensures { WasCalled F.Fn f seat.entry.number seat.entry.me result }
             { answer(&f, seat) },
@@ -438,7 +445,7 @@ fn names<T>(alloc: Global, first: u32, count: u32) -> Result<Vec<Cell<T>>, Alloc
 }
 
 // How the first thread ended that did not end well.
-fn how_all_ended<L: Law>(seats: &[Seat<'_, L>]) -> Result<(), Failed>
+fn how_all_ended<X>(seats: &[Seat<'_, X>]) -> Result<(), Failed>
     ensures well { OnOk result (All (λ seat. seat.ended ≡ Ok tt) seats.now) }
     ensures first { IfErr result (IsFirst seats.now) }
 {
@@ -452,7 +459,7 @@ fn how_all_ended<L: Law>(seats: &[Seat<'_, L>]) -> Result<(), Failed>
 
 // Calls the closure on a seat, and hands back what it has answered, up to which number its part has committed then, and how many
 // numbers that has drawn.
-fn answer<T, F>(f: &F, seat: Seat<'_, AnyLaw>) -> Ended<T>
+fn answer<T, F>(f: &F, seat: Seat<'_, Tx<'_>>) -> Ended<T>
 where
     F: Fn(&mut Me<'_>, usize) -> Result<T, GaveUp>,
     requires callable { F.IsAlwaysCallable f.now }

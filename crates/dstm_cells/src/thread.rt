@@ -6,25 +6,48 @@ ghost use Rattle.dstm_cells.specs.Closures.{GaveUpFor, IsLawful, KeepsEach, Keep
 ghost use Rattle.dstm_cells.specs.UnderWay.{AddsNothing, Keeps, LeavesLawful, TakesEffect};
 ghost use Rattle.dstm_tables.specs.Callers.{home_of};
 
+use crate::back_off::BackOff;
 use crate::error::{GaveUp, Stop};
 use crate::transaction::Transaction;
+use crate::turn::Turn;
 use crate::under_way::Tx;
 use dstm_model::AnyLaw;
-use std::thread::yield_now;
-
-// A transaction gives way after each attempt that was lost, twice as often as before, and at most so often.
-const MOST_TURNS: u32 = 64;
 
 /// A thread's part in a run: it makes transactions, one after the other.
 #[derive(Drop)]
-pub struct Part<X> {
+pub struct Part<'a, X> {
     pub(crate) tx: X,
+    pub(crate) back_off: BackOff<'a>,
 }
 
 /// A thread's part in a run on a memory, under a law where one is named.
-pub type Me<'a, L = AnyLaw> = Part<Tx<'a, L>>;
+pub type Me<'a, L = AnyLaw> = Part<'a, Tx<'a, L>>;
 
-impl<X: Transaction> Part<X> {
+impl<'a, X: Drop> Part<'a, X> {
+    // The part that makes these transactions. It knows of no turn.
+    pub(crate) fn of(tx: X) -> Part<'a, X>
+        ensures { result.tx ≡ tx }
+    {
+        Part {
+            tx,
+            back_off: BackOff::new(None),
+        }
+    }
+
+    /// The part, which shares this turn with other threads of its table: a transaction that was lost often goes before
+    /// theirs.
+    pub fn with_turn(self, turn: &'a Turn) -> Part<'a, X>
+        ensures { result.tx ≡ self.entry.tx }
+    {
+        let Part { tx, .. } = self;
+        Part {
+            tx,
+            back_off: BackOff::new(Some(turn)),
+        }
+    }
+}
+
+impl<X: Transaction> Part<'_, X> {
     /// Makes a transaction: calls the closure, and again, until what it did has taken effect as a whole. What an
     /// attempt has set that does not take effect nobody sees. The answer is that of the last call.
     pub fn atomically<R: Drop, F>(&mut self, f: F) -> Result<R, GaveUp>
@@ -84,19 +107,22 @@ impl<X: Transaction> Part<X> {
     {
         let mut f = f;
         self.tx.renew();
-        let mut turns: u32 = 1;
         for _number in 0..self.tx.attempts() {
+            self.back_off.enter();
             self.tx.begin()?;
             match f(&mut self.tx) {
                 Ok(answer) => {
                     if end(&mut self.tx, commits) {
+                        self.back_off.end();
                         return Ok(answer);
                     }
                 }
-                Err(stop) => self.tx.leave(stop)?,
+                Err(stop) => {
+                    self.back_off.stop(&stop);
+                    self.tx.leave(stop)?;
+                }
             }
-            turns = turns.saturating_mul(2).min(MOST_TURNS);
-            give_way(turns);
+            self.back_off.give_way();
         }
         Err(GaveUp::Spent)
     }
@@ -124,11 +150,4 @@ fn end<X: Transaction>(tx: &mut X, commits: bool) -> bool
     ensures patience { X.patience tx.new ≡ X.patience tx.old }
 {
     if commits { tx.commit() } else { tx.finish() }
-}
-
-// Lets other threads run, so many times.
-fn give_way(turns: u32) {
-    for _turn in 0..turns {
-        yield_now();
-    }
 }

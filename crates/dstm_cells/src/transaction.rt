@@ -8,10 +8,11 @@ ghost use Rattle.dstm_cells.specs.declared.error.GaveUp.TheVariants.{Spent};
 ghost use Rattle.dstm_cells.specs.declared.under_way.Undo.{Undo};
 
 use crate::error::{GaveUp, Stop};
-use crate::under_way::Tx;
+use crate::holds::Holds;
+use crate::under_way::Attempt;
 use dstm_model::Law;
 
-/// What makes the transactions of a thread, one after the other, on a memory under a law: a `Tx`.
+/// What makes the transactions of a thread, one after the other, on a memory under a law: an `Attempt`.
 pub trait Transaction: Drop {
     /// The law.
     type Rule: Law;
@@ -96,7 +97,7 @@ pub trait Transaction: Drop {
             (noting self.new).caller) };
 }
 
-impl<'a, L: Law> Transaction for Tx<'a, L> {
+impl<L: Law, S: Holds<L>> Transaction for Attempt<L, S> {
     type Rule = L;
 
     ghost caller = { λ tx. tx.attempts.caller };
@@ -106,7 +107,7 @@ impl<'a, L: Law> Transaction for Tx<'a, L> {
     ghost noting = { noting };
 
     fn attempts(&self) -> u64 {
-        self.attempts.attempts(self.table)
+        self.attempts.attempts(self.table.table())
     }
 
     fn renew(&mut self) {
@@ -116,7 +117,7 @@ impl<'a, L: Law> Transaction for Tx<'a, L> {
     fn begin(&mut self) -> Result<(), GaveUp> {
         self.undos.clear();
         self.notes = false;
-        let Ok(()) = self.attempts.begin(self.table) else {
+        let Ok(()) = self.attempts.begin(self.table.table()) else {
             return Err(GaveUp::Spent);
         };
         Ok(())
@@ -124,14 +125,14 @@ impl<'a, L: Law> Transaction for Tx<'a, L> {
 
     #[inline(always)]
     fn commit(&mut self) -> bool {
-        self.attempts.commit(self.table)
+        self.attempts.commit(self.table.table())
     }
 
     #[inline(always)]
     fn finish(&mut self) -> bool {
         let is_under_way = self.attempts.is_under_way();
         if is_under_way {
-            self.attempts.abandon(self.table);
+            self.attempts.abandon(self.table.table());
         }
         is_under_way
     }
@@ -139,7 +140,7 @@ impl<'a, L: Law> Transaction for Tx<'a, L> {
     fn leave(&mut self, stop: Stop) -> Result<(), GaveUp> {
         let Stop { why } = stop;
         let next = self.follow(why);
-        self.attempts.abandon(self.table);
+        self.attempts.abandon(self.table.table());
         next
     }
 

@@ -13,11 +13,12 @@ ghost use Rattle.dstm_cells.specs.declared.error.Why.TheVariants.{Retry};
 use crate::alternatives::or_else;
 use crate::cell::{Cell, Word};
 use crate::error::{Failed, GaveUp, Stop, Why};
+use crate::holds::Holds;
 use crate::transaction::Transaction;
-use crate::under_way::{Tx, Undo};
+use crate::under_way::{Attempt, Tx, Undo};
 use dstm_attempts::{Attempts, Look};
 use dstm_model::{AnyLaw, Law, Val};
-use dstm_tables::{Caller, Table};
+use dstm_tables::Caller;
 use std::alloc::{AllocFailed, Global};
 use std::thread::yield_now;
 
@@ -27,16 +28,17 @@ pub const LOOKS: u32 = 1_048_576;
 // How often all objects are read together when nobody sets them any more.
 const READINGS: u32 = 64;
 
-impl<'a, L: Law> Tx<'a, L> {
+impl<L: Law, S: Holds<L>> Attempt<L, S> {
     // What makes the transactions of one caller of a table, one after the other.
-    pub(crate) fn new(alloc: Global, caller: Caller<L>, table: &'a Table<L>) -> Tx<'a, L>
-        requires table { home_of caller ≡ table.now }
+    pub(crate) fn new(alloc: Global, caller: Caller<L>, table: S) -> Attempt<L, S>
+        requires table { home_of caller ≡ S.held table }
         requires closed { IsClosed caller }
         requires none { done caller ≡ [] }
         ensures caller { result.attempts.caller ≡ caller }
         ensures looks { result.looks ≡ 1048576 }
+        ensures unnoted { (result.notes ≡ false) × (result.undos.items ≡ []) }
     {
-        Tx {
+        Attempt {
             attempts: Attempts::of(alloc, caller),
             table,
             undos: Vec::new(alloc),
@@ -131,10 +133,11 @@ impl<'a, L: Law> Tx<'a, L> {
     }
 
     // Opens an object for reading.
-    fn read(&mut self, object: u32) -> Result<Val, Stop>
+    pub(crate) fn read(&mut self, object: u32) -> Result<Val, Stop>
         ensures keeps { Keeps self.old.attempts.caller self.new.attempts.caller }
         ensures stops { IfErr result (λ stop. StopsLook L.holds object self.old.attempts.caller self.new.attempts.caller stop.why) }
         ensures notes { Notes L.holds (noting self.old) (noting self.new) }
+        ensures settings { settings (noting self.new) ≡ settings (noting self.old) }
         ensures undos { self.new.undos.items ≡ self.old.undos.items }
         ensures refuses { Refuses self.old.attempts.caller object result }
         ensures finds { IfOk result (Finds L.holds self.old.attempts.caller self.new.attempts.caller object) }
@@ -142,16 +145,19 @@ impl<'a, L: Law> Tx<'a, L> {
         ensures together { OnOk result (StoodTogether L.holds self.new.attempts.caller) }
         ensures may { OnOk result ((map : List Val) × MayBegin L.holds self.new.attempts.caller map) }
     {
-        let value = self.attempts.read(self.table, object)?;
+        let value = self.attempts.read(self.table.table(), object)?;
         Ok(value)
     }
 
     // Sets an object to what this makes of its value, and answers what it had. In an alternative this is noted.
-    fn change<F: FnOnce(Val) -> Val>(&mut self, object: u32, f: F) -> Result<Val, Stop>
+    pub(crate) fn change<F: FnOnce(Val) -> Val>(&mut self, object: u32, f: F) -> Result<Val, Stop>
         requires callable { F.IsAlwaysCallable f }
         ensures keeps { Keeps self.old.attempts.caller self.new.attempts.caller }
         ensures stops { IfErr result (λ stop. StopsChange L.holds self.old.notes object self.old.attempts.caller self.new.attempts.caller stop.why) }
         ensures notes { Notes L.holds (noting self.old) (noting self.new) }
+        ensures settings { settings (noting self.new) ≡ settings (noting self.old) }
+        ensures noted { IfOk result (λ had. self.old.notes ≡ true
+            → self.new.undos.items ≡ self.old.undos.items ++ (record { object = object; value = had } ∷ [])) }
         ensures unnoted { self.old.notes ≡ false → self.new.undos.items ≡ self.old.undos.items }
         ensures undos { IfErr result (λ _. self.new.undos.items ≡ self.old.undos.items) }
         ensures refuses { Refuses self.old.attempts.caller object result }
@@ -161,9 +167,9 @@ impl<'a, L: Law> Tx<'a, L> {
         ensures together { OnOk result (StoodTogether L.holds self.new.attempts.caller) }
         ensures may { OnOk result ((map : List Val) × MayBegin L.holds self.new.attempts.caller map) }
     {
-        let value = self.attempts.write(self.table, object)?;
+        let value = self.attempts.write(self.table.table(), object)?;
         note_undo(&mut self.undos, self.notes, Undo { object, value })?;
-        self.attempts.set(self.table, object, f(value));
+        self.attempts.set(self.table.table(), object, f(value));
         Ok(value)
     }
 
@@ -177,8 +183,8 @@ impl<'a, L: Law> Tx<'a, L> {
         ensures puts { OnOk result ((had : Val) × Exchanges L.holds self.old.attempts.caller self.new.attempts.caller object had value) }
         ensures once { OnOk result (OpensAndSets L.holds object self.old.attempts.caller self.new.attempts.caller) }
     {
-        let _old = self.attempts.write(self.table, object)?;
-        self.attempts.set(self.table, object, value);
+        let _old = self.attempts.write(self.table.table(), object)?;
+        self.attempts.set(self.table.table(), object, value);
         Ok(())
     }
 
@@ -202,7 +208,7 @@ impl<'a, L: Law> Tx<'a, L> {
         ensures looks { self.new.looks ≡ self.old.looks }
         ensures follows { FollowsRetry L.holds self.old.looks self.old.attempts.caller self.new.attempts.caller result }
     {
-        match self.attempts.let_go(self.table) {
+        match self.attempts.let_go(self.table.table()) {
             Ok(Look::Same) => self.look_on(),
             Ok(Look::Changed) => Ok(()),
             Ok(Look::Spent) => Err(GaveUp::Spent),
@@ -219,7 +225,7 @@ impl<'a, L: Law> Tx<'a, L> {
         let began = self.attempts.clock();
         for _look in 0..self.looks {
             yield_now();
-            match self.attempts.look(self.table, began) {
+            match self.attempts.look(self.table.table(), began) {
                 Look::Same => {}
                 Look::Changed => return Ok(()),
                 Look::Spent => return Err(GaveUp::Spent),
@@ -245,7 +251,7 @@ impl<'a, L: Law> Tx<'a, L> {
             };
             match self.all(alloc, objects) {
                 Ok(values) => {
-                    if let Some(number) = self.attempts.commit_under(self.table) {
+                    if let Some(number) = self.attempts.commit_under(self.table.table()) {
                         return Ok((values, number));
                     }
                 }

@@ -13,7 +13,8 @@ use Rattle.dstm_cells.specs.Alternatives.{HasNoted, Noting}
 use Rattle.dstm_cells.specs.UnderWay.{Changes, Gets, MayBegin, StopsChange, StopsLook, seen}
 use Rattle.dstm_cells.specs.declared.error.Why.{Why}
 use Rattle.dstm_cells.specs.declared.error.Why.TheVariants.{Again, Retry, Foreign, Memory}
-use Rattle.dstm_cells.specs.declared.under_way.Tx.{Tx}
+use Rattle.dstm_cells.specs.declared.holds.Holds.{Ghosts as Holding}
+use Rattle.dstm_cells.specs.declared.under_way.Attempt.{Attempt as Tx}
 use Rattle.dstm_cells.proofs.Found.{found_at, put_at}
 use Rattle.dstm_structures.specs.Circles.{behind, next}
 use Rattle.dstm_structures.specs.Effects.{Does, GoesOn, Stops}
@@ -28,19 +29,19 @@ module _ {L : Type 0} where
   pub same_objects : (k m : Caller L) → Keeps k m → objects_of m ≡ objects_of k
   same_objects k m same = ap (λ (a : Attempt L). objects_there a.home) same
 
-  module _ {ghosts : Ghosts L} (holds : L → List Val → Type 0) (size o : ℕ) (notes : Bool) (k m n : Tx L ghosts)
+  module _ {S : Type 0} {ghosts : Ghosts L} {holding : Holding S L} (holds : L → List Val → Type 0) (size o : ℕ) (notes : Bool) (k m n : Tx L S ghosts holding)
       (keeps : Keeps k.attempts.caller m.attempts.caller) (inside : o < size) where
     pub stops-look : (why : Why) → StopsLook holds o m.attempts.caller n.attempts.caller why → Stops size notes k n why
     stops-look Again s = s.why.0
     stops-look Retry s = absurd s
-    stops-look Foreign s = omega (arith, s.why, same_objects k.attempts.caller m.attempts.caller keeps, inside)
+    stops-look Foreign s = omega (arith, s.why.0, same_objects k.attempts.caller m.attempts.caller keeps, inside)
     stops-look Memory s = absurd s
 
     pub stops-change : (why : Why) → m.notes ≡ notes →
         StopsChange holds m.notes o m.attempts.caller n.attempts.caller why → Stops size notes k n why
     stops-change Again same s = s.why.0
     stops-change Retry same s = absurd s
-    stops-change Foreign same s = omega (arith, s.why, same_objects k.attempts.caller m.attempts.caller keeps, inside)
+    stops-change Foreign same s = omega (arith, s.why.0, same_objects k.attempts.caller m.attempts.caller keeps, inside)
     stops-change Memory same s = sym same ∙ s.0
 
   -- whether it is in an alternative stays as it was
@@ -53,7 +54,7 @@ module _ {L : Type 0} where
           record { added = []; is = sym (append-nil k.undos); narrows = λ map may. may; back = λ map may. refl };
     })).same
 
-    pub goes-stay : {ghosts : Ghosts L} {k m : Tx L ghosts} → GoesOn holds k m → m.notes ≡ k.notes
+    pub goes-stay : {S : Type 0} {ghosts : Ghosts L} {holding : Holding S L} {k m : Tx L S ghosts holding} → GoesOn holds k m → m.notes ≡ k.notes
     goes-stay goes = notes-stay goes.notes
 
   -- ---- what it does

@@ -8,19 +8,20 @@ use Rattle.dstm_attempts.specs.Attempts.{SetsNothing}
 use Rattle.dstm_cells.specs.UnderWay.{Gets, StopsLook, seen}
 use Rattle.dstm_cells.specs.declared.error.Why.{Why}
 use Rattle.dstm_cells.specs.declared.error.Why.TheVariants.{Again, Retry, Foreign, Memory}
-use Rattle.dstm_cells.specs.declared.under_way.Tx.{Tx}
+use Rattle.dstm_cells.specs.declared.holds.Holds.{Ghosts as Holding}
+use Rattle.dstm_cells.specs.declared.under_way.Attempt.{Attempt as Tx}
 use Rattle.dstm_structures.specs.Effects.{Does, GoesOn}
 use Rattle.dstm_structures.specs.Looks.{OnlyLooks, Shows, StandsAt}
 
 -- ---- one look
 
-pub look-is : {L T : Type 0} {ghosts : Ghosts L} {holds : L → List Val → Type 0} {found : Val → T} {k : Caller L} {o : ℕ}
-    {value : T} (n : Tx L ghosts) → Gets holds found k n.attempts.caller o value →
+pub look-is : {L S T : Type 0} {ghosts : Ghosts L} {holding : Holding S L} {holds : L → List Val → Type 0} {found : Val → T} {k : Caller L} {o : ℕ}
+    {value : T} (n : Tx L S ghosts holding) → Gets holds found k n.attempts.caller o value →
     Shows (StandsAt holds) (λ values. value ≡ found (value_at values o)) n
 look-is {found = found} {o = o} n g map values at =
     g.is ∙ ap found (sym (g.finds.value map at.0) ∙ ap (λ (xs : List Val). value_at xs o) at.1)
 
-module _ {L : Type 0} {ghosts : Ghosts L} {holds : L → List Val → Type 0} {k n : Tx L ghosts} where
+module _ {L S : Type 0} {ghosts : Ghosts L} {holding : Holding S L} {holds : L → List Val → Type 0} {k n : Tx L S ghosts holding} where
   module _ (goes : GoesOn holds k n) where
     look-on : SetsNothing holds k.attempts.caller n.attempts.caller → OnlyLooks holds k n
     look-on unset = record { goes = goes; unset = unset }

@@ -9,13 +9,14 @@ use Rattle.dstm_cells.specs.Alternatives.{Notes, noting}
 use Rattle.dstm_cells.specs.UnderWay.{Keeps, MayBegin, seen}
 use Rattle.dstm_cells.specs.declared.error.Why.{Why}
 use Rattle.dstm_cells.specs.declared.error.Why.TheVariants.{Again, Retry, Foreign, Memory}
-use Rattle.dstm_cells.specs.declared.under_way.Tx.{Tx}
+use Rattle.dstm_cells.specs.declared.holds.Holds.{Ghosts as Holding}
+use Rattle.dstm_cells.specs.declared.under_way.Attempt.{Attempt as Tx}
 
-module _ {L : Type 0} {ghosts : Ghosts L} where
+module _ {L S : Type 0} {ghosts : Ghosts L} {holding : Holding S L} where
   -- why a call on a structure within so many objects stops: it is made again only where no call on the attempt is made any
   -- more, it never retries, no object is foreign where the run's memory has them, and it wants memory only where it is to note
   -- what it sets
-  abbrev pub Stops : (objects : ℕ) (notes : Bool) (old new : Tx L ghosts) → Why → Type 0
+  abbrev pub Stops : (objects : ℕ) (notes : Bool) (old new : Tx L S ghosts holding) → Why → Type 0
   Stops objects notes old new Again = IsClosed new.attempts.caller
   Stops objects notes old new Retry = ⊥
   Stops objects notes old new Foreign = objects_of old.attempts.caller < objects
@@ -23,15 +24,15 @@ module _ {L : Type 0} {ghosts : Ghosts L} where
 
   module _ (holds : L → List Val → Type 0) where
     -- EACH CALL GOES ON with the same attempt, whatever it answers, and notes what it sets where it is in an alternative
-    pub record GoesOn (old new : Tx L ghosts) : Type 0 where
+    pub record GoesOn (old new : Tx L S ghosts holding) : Type 0 where
       pub keeps : Keeps old.attempts.caller new.attempts.caller
       pub notes : Notes holds (noting old) (noting new)
 
   module _ {holds : L → List Val → Type 0} where
-    pub goes-still : {k : Tx L ghosts} → GoesOn holds k k
+    pub goes-still : {k : Tx L S ghosts holding} → GoesOn holds k k
     goes-still = record { keeps = refl; notes = λ first noted. noted }
 
-    pub goes-again : {k m n : Tx L ghosts} → GoesOn holds k m → GoesOn holds m n → GoesOn holds k n
+    pub goes-again : {k m n : Tx L S ghosts holding} → GoesOn holds k m → GoesOn holds m n → GoesOn holds k n
     goes-again one two = record {
       keeps = two.keeps ∙ one.keeps;
       notes = λ first noted. two.notes first (one.notes first noted);

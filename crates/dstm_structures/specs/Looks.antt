@@ -10,7 +10,8 @@ use Rattle.dstm_cells.specs.declared.error.Failed.{Failed}
 use Rattle.dstm_cells.specs.declared.error.Failed.TheVariants as failed
 use Rattle.dstm_cells.specs.declared.error.Why.{Why}
 use Rattle.dstm_cells.specs.declared.error.Why.TheVariants.{Again, Retry, Foreign, Memory}
-use Rattle.dstm_cells.specs.declared.under_way.Tx.{Tx}
+use Rattle.dstm_cells.specs.declared.holds.Holds.{Ghosts as Holding}
+use Rattle.dstm_cells.specs.declared.under_way.Attempt.{Attempt as Tx}
 use Rattle.dstm_structures.specs.Effects.{GoesOn, Stops, goes-again, goes-still}
 
 -- for what looks at cells, and stands at these values if it has begun at this map
@@ -25,24 +26,24 @@ module _ {B : Type 0} (stands : B → List Val → List Val → Type 0) where
 
 -- ---- a transaction under way
 
-module _ {L : Type 0} {ghosts : Ghosts L} (holds : L → List Val → Type 0) where
+module _ {L S : Type 0} {ghosts : Ghosts L} {holding : Holding S L} (holds : L → List Val → Type 0) where
   -- one whose attempt has begun at this map stands at these values
-  abbrev pub StandsAt : Tx L ghosts → List Val → List Val → Type 0
+  abbrev pub StandsAt : Tx L S ghosts holding → List Val → List Val → Type 0
   StandsAt k map values = MayBegin holds k.attempts.caller map × (seen k.attempts.caller map ≡ values)
 
   -- it has only looked: it goes on, and has set nothing
-  pub record OnlyLooks (old new : Tx L ghosts) : Type 0 where
+  pub record OnlyLooks (old new : Tx L S ghosts holding) : Type 0 where
     pub goes : GoesOn holds old new
     pub open goes use *
     pub unset : SetsNothing holds old.attempts.caller new.attempts.caller
 
-  pub looks-still : (k : Tx L ghosts) → OnlyLooks k k
+  pub looks-still : (k : Tx L S ghosts holding) → OnlyLooks k k
   looks-still k = record {
     goes = goes-still;
     unset = record { narrows = λ map may. may; same = λ map. refl };
   }
 
-  pub looks-again : (k m n : Tx L ghosts) → OnlyLooks k m → OnlyLooks m n → OnlyLooks k n
+  pub looks-again : (k m n : Tx L S ghosts holding) → OnlyLooks k m → OnlyLooks m n → OnlyLooks k n
   looks-again k m n one two = record {
     goes = goes-again one.goes two.goes;
     unset = record {
@@ -51,10 +52,10 @@ module _ {L : Type 0} {ghosts : Ghosts L} (holds : L → List Val → Type 0) wh
     };
   }
 
-  pub looks-narrow : (k n : Tx L ghosts) (map values : List Val) → OnlyLooks k n → StandsAt n map values → StandsAt k map values
+  pub looks-narrow : (k n : Tx L S ghosts holding) (map values : List Val) → OnlyLooks k n → StandsAt n map values → StandsAt k map values
   looks-narrow k n map values looks at = (looks.unset.narrows map at.0, sym (looks.unset.same map) ∙ at.1)
 
-  pub stops-later : (lists : Bool) (size : ℕ) (k m n : Tx L ghosts) (why : Why) → OnlyLooks k m → Stops size lists m n why →
+  pub stops-later : (lists : Bool) (size : ℕ) (k m n : Tx L S ghosts holding) (why : Why) → OnlyLooks k m → Stops size lists m n why →
       Stops size lists k n why
   stops-later lists size k m n Again looks stops = stops
   stops-later lists size k m n Retry looks stops = stops
@@ -62,7 +63,7 @@ module _ {L : Type 0} {ghosts : Ghosts L} (holds : L → List Val → Type 0) wh
       subst (λ (a : Attempt L). objects_there a.home < size) looks.keeps stops
   stops-later lists size k m n Memory looks stops = stops
 
-  pub stops-listing : (size : ℕ) (k n : Tx L ghosts) (why : Why) → Stops size false k n why → Stops size true k n why
+  pub stops-listing : (size : ℕ) (k n : Tx L S ghosts holding) (why : Why) → Stops size false k n why → Stops size true k n why
   stops-listing size k n Again stops = stops
   stops-listing size k n Retry stops = stops
   stops-listing size k n Foreign stops = stops

@@ -11,13 +11,13 @@ ghost use Rattle.dstm_structures.specs.Sets as sets;
 use crate::map::HashMap;
 use crate::ordered::OrderedMap;
 use crate::set::OrderedSet;
-use dstm_cells::{Stop, Tx, Word};
+use dstm_cells::{Attempt, Holds, Stop, Word};
 use dstm_model::Law;
 use std::alloc::Global;
 
 impl<V: Word> HashMap<V> {
     /// How many keys there are. It looks at each place, and so any change of a key comes into its way.
-    pub fn len<L: Law>(self, tx: &mut Tx<'_, L>) -> Result<u32, Stop>
+    pub fn len<L: Law, S: Holds<L>>(self, tx: &mut Attempt<L, S>) -> Result<u32, Stop>
         ensures goes { GoesOn L.holds tx.old tx.new }
         ensures stops { IfErr result (λ stop. Stops (end_of self) false tx.old tx.new stop.why) }
         ensures counts { IfOk result (λ count. Does L.holds (end_of self) (Counts V.found self count)
@@ -33,7 +33,11 @@ impl<V: Word> HashMap<V> {
     }
 
     /// All keys with their values, in no order. It looks at each place, as `len` does.
-    pub fn to_vec<L: Law>(self, tx: &mut Tx<'_, L>, alloc: Global) -> Result<Vec<(u64, V)>, Stop>
+    pub fn to_vec<L: Law, S: Holds<L>>(
+        self,
+        tx: &mut Attempt<L, S>,
+        alloc: Global,
+    ) -> Result<Vec<(u64, V)>, Stop>
         ensures goes { GoesOn L.holds tx.old tx.new }
         ensures stops { IfErr result (λ stop. Stops (end_of self) true tx.old tx.new stop.why) }
         ensures lists { IfOk result (λ items. Does L.holds (end_of self) (Lists V.found self items.items)
@@ -45,7 +49,11 @@ impl<V: Word> HashMap<V> {
     }
 
     // The key that is found at a place, if one is.
-    fn stands<L: Law>(self, tx: &mut Tx<'_, L>, at: u32) -> Result<Option<u64>, Stop>
+    fn stands<L: Law, S: Holds<L>>(
+        self,
+        tx: &mut Attempt<L, S>,
+        at: u32,
+    ) -> Result<Option<u64>, Stop>
         requires { at < self.cells.capacity }
         ensures goes { GoesOn L.holds tx.old tx.new }
         ensures stops { IfErr result (λ stop. Stops (end_of self) false tx.old tx.new stop.why) }
@@ -60,7 +68,7 @@ impl<V: Word> HashMap<V> {
 
 impl<V: Word> OrderedMap<V> {
     /// How many keys there are. It looks at each place, and so any change of a key comes into its way.
-    pub fn len<L: Law>(self, tx: &mut Tx<'_, L>) -> Result<u32, Stop>
+    pub fn len<L: Law, S: Holds<L>>(self, tx: &mut Attempt<L, S>) -> Result<u32, Stop>
         ensures goes { GoesOn L.holds tx.old tx.new }
         ensures stops { IfErr result (λ stop. Stops (end_of self.map) false tx.old tx.new stop.why) }
         ensures counts { IfOk result (λ count. Does L.holds (end_of self.map) (Counts V.found self.map count)
@@ -71,7 +79,11 @@ impl<V: Word> OrderedMap<V> {
     }
 
     /// All keys with their values, in the order of the keys.
-    pub fn to_vec<L: Law>(self, tx: &mut Tx<'_, L>, alloc: Global) -> Result<Vec<(u64, V)>, Stop>
+    pub fn to_vec<L: Law, S: Holds<L>>(
+        self,
+        tx: &mut Attempt<L, S>,
+        alloc: Global,
+    ) -> Result<Vec<(u64, V)>, Stop>
         ensures goes { GoesOn L.holds tx.old tx.new }
         ensures stops { IfErr result (λ stop. Stops (order_end self.map.cells) true tx.old tx.new stop.why) }
         ensures lists { IfOk result (λ items. Does L.holds (order_end self.map.cells) (ListsInOrder V.found self items.items)
@@ -91,7 +103,7 @@ impl<V: Word> OrderedMap<V> {
 
 impl OrderedSet {
     /// How many keys are in the set. It looks at each place, as `HashMap::len` does.
-    pub fn len<L: Law>(self, tx: &mut Tx<'_, L>) -> Result<u32, Stop>
+    pub fn len<L: Law, S: Holds<L>>(self, tx: &mut Attempt<L, S>) -> Result<u32, Stop>
         ensures goes { GoesOn L.holds tx.old tx.new }
         ensures stops { IfErr result (λ stop. Stops (end_of self.map.map) false tx.old tx.new stop.why) }
         ensures counts { IfOk result (λ count. Does L.holds (end_of self.map.map) (sets.Counts self count)

@@ -5,7 +5,7 @@ ghost use Rattle.dstm_model.specs.declared.value.Val.{Val};
 ghost use Rattle.dstm_structures.specs.Effects.{Stops};
 ghost use Rattle.dstm_structures.specs.Looks.{OnlyLooks, Shows, StandsAt, StandsSomewhere};
 
-use dstm_cells::{Cell, Failed, Memory, Stop, Tx, Word};
+use dstm_cells::{Attempt, Cell, Failed, Holds, Memory, Stop, Word};
 use dstm_model::Law;
 use std::alloc::AllocError;
 
@@ -47,7 +47,7 @@ pub(crate) trait Looks {
     ghost fails_listing: { (size : ℕ) (k n : Self) (why : Self.Err) → Fails false size k n why → Fails true size k n why };
 }
 
-impl<L: Law> Looks for Tx<'_, L> {
+impl<L: Law, S: Holds<L>> Looks for Attempt<L, S> {
     ghost use Rattle.dstm_structures.specs.Looks.{looks-again, looks-narrow, looks-still, stops-later, stops-listing};
 
     type Err = Stop;

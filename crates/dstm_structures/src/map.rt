@@ -9,7 +9,7 @@ ghost use Rattle.dstm_structures.specs.Maps.{Adds, ClearsAll, Empties, Frees, In
 ghost use Rattle.dstm_structures.specs.Places.{is_free, is_key};
 
 use crate::cells::{Rows, Slot, behind, cell, number};
-use dstm_cells::{Cell, Failed, MOST_CELLS, Memory, Stop, Tx, Word};
+use dstm_cells::{Attempt, Cell, Failed, Holds, MOST_CELLS, Memory, Stop, Word};
 use dstm_model::Law;
 use std::marker::PhantomData;
 
@@ -63,7 +63,11 @@ impl<V: Word> HashMap<V> {
     }
 
     /// The value of a key, if it is there.
-    pub fn get<L: Law>(self, tx: &mut Tx<'_, L>, key: u64) -> Result<Option<V>, Stop>
+    pub fn get<L: Law, S: Holds<L>>(
+        self,
+        tx: &mut Attempt<L, S>,
+        key: u64,
+    ) -> Result<Option<V>, Stop>
         ensures goes { GoesOn L.holds tx.old tx.new }
         ensures stops { IfErr result (λ stop. Stops (end_of self) false tx.old tx.new stop.why) }
         ensures tells { IfOk result (λ answer. Does L.holds (end_of self) (Tells V.found self key answer)
@@ -75,7 +79,11 @@ impl<V: Word> HashMap<V> {
     }
 
     /// Tells whether a key is there.
-    pub fn contains<L: Law>(self, tx: &mut Tx<'_, L>, key: u64) -> Result<bool, Stop>
+    pub fn contains<L: Law, S: Holds<L>>(
+        self,
+        tx: &mut Attempt<L, S>,
+        key: u64,
+    ) -> Result<bool, Stop>
         ensures goes { GoesOn L.holds tx.old tx.new }
         ensures stops { IfErr result (λ stop. Stops (end_of self) false tx.old tx.new stop.why) }
         ensures tells { IfOk result (λ answer. Does L.holds (end_of self) (TellsIf V.found self key answer)
@@ -87,7 +95,12 @@ impl<V: Word> HashMap<V> {
     }
 
     /// Gives a key this value, and adds the key where it is not there.
-    pub fn put<L: Law>(self, tx: &mut Tx<'_, L>, key: u64, value: V) -> Result<Placed<V>, Stop>
+    pub fn put<L: Law, S: Holds<L>>(
+        self,
+        tx: &mut Attempt<L, S>,
+        key: u64,
+        value: V,
+    ) -> Result<Placed<V>, Stop>
         ensures goes { GoesOn L.holds tx.old tx.new }
         ensures stops { IfErr result (λ stop. Stops (end_of self) tx.old.notes tx.old tx.new stop.why) }
         ensures puts { IfOk result (λ placed. Does L.holds (end_of self) (Puts V.found self key value placed)
@@ -104,7 +117,11 @@ impl<V: Word> HashMap<V> {
     }
 
     /// Takes a key out, and answers its value, if it is there.
-    pub fn remove<L: Law>(self, tx: &mut Tx<'_, L>, key: u64) -> Result<Option<V>, Stop>
+    pub fn remove<L: Law, S: Holds<L>>(
+        self,
+        tx: &mut Attempt<L, S>,
+        key: u64,
+    ) -> Result<Option<V>, Stop>
         ensures goes { GoesOn L.holds tx.old tx.new }
         ensures stops { IfErr result (λ stop. Stops (end_of self) tx.old.notes tx.old tx.new stop.why) }
         ensures removes { IfOk result (λ removed. Does L.holds (end_of self) (Removes V.found self key removed)
@@ -130,7 +147,11 @@ impl<V: Word> HashMap<V> {
     }
 
     // The place of a key, if it is there.
-    pub(crate) fn find<L: Law>(self, tx: &mut Tx<'_, L>, key: u64) -> Result<Option<u32>, Stop>
+    pub(crate) fn find<L: Law, S: Holds<L>>(
+        self,
+        tx: &mut Attempt<L, S>,
+        key: u64,
+    ) -> Result<Option<u32>, Stop>
         ensures goes { GoesOn L.holds tx.old tx.new }
         ensures stops { IfErr result (λ stop. Stops (end_of self) false tx.old tx.new stop.why) }
         ensures within { IfOk result (λ place. IfSome place (λ at. at < self.cells.capacity)) }
@@ -143,9 +164,9 @@ impl<V: Word> HashMap<V> {
     }
 
     // Puts a key that is not there into the first free place from its home on, and answers it.
-    pub(crate) fn insert<L: Law>(
+    pub(crate) fn insert<L: Law, S: Holds<L>>(
         self,
-        tx: &mut Tx<'_, L>,
+        tx: &mut Attempt<L, S>,
         key: u64,
         value: V,
     ) -> Result<Option<u32>, Stop>
@@ -172,7 +193,12 @@ impl<V: Word> HashMap<V> {
     }
 
     // How far behind a home the first place is that is free for its keys, which are looked for at so many places.
-    fn free<L: Law>(self, tx: &mut Tx<'_, L>, home: u32, reach: u32) -> Result<Option<u32>, Stop>
+    fn free<L: Law, S: Holds<L>>(
+        self,
+        tx: &mut Attempt<L, S>,
+        home: u32,
+        reach: u32,
+    ) -> Result<Option<u32>, Stop>
         requires { home < self.cells.capacity }
         ensures goes { GoesOn L.holds tx.old tx.new }
         ensures stops { IfErr result (λ stop. Stops (end_of self) false tx.old tx.new stop.why) }
@@ -192,7 +218,13 @@ impl<V: Word> HashMap<V> {
     }
 
     // Puts a key with its value into a place.
-    fn store<L: Law>(self, tx: &mut Tx<'_, L>, at: u32, key: u64, value: V) -> Result<(), Stop>
+    fn store<L: Law, S: Holds<L>>(
+        self,
+        tx: &mut Attempt<L, S>,
+        at: u32,
+        key: u64,
+        value: V,
+    ) -> Result<(), Stop>
         requires { at < self.cells.capacity }
         ensures goes { GoesOn L.holds tx.old tx.new }
         ensures stops { IfErr result (λ stop. Stops (end_of self) tx.old.notes tx.old tx.new stop.why) }
@@ -206,7 +238,12 @@ impl<V: Word> HashMap<V> {
     }
 
     // Sets the key of a place.
-    fn set_key<L: Law>(self, tx: &mut Tx<'_, L>, at: u32, key: Option<u64>) -> Result<(), Stop>
+    fn set_key<L: Law, S: Holds<L>>(
+        self,
+        tx: &mut Attempt<L, S>,
+        at: u32,
+        key: Option<u64>,
+    ) -> Result<(), Stop>
         requires { at < self.cells.capacity }
         ensures goes { GoesOn L.holds tx.old tx.new }
         ensures stops { IfErr result (λ stop. Stops (end_of self) tx.old.notes tx.old tx.new stop.why) }
@@ -219,7 +256,12 @@ impl<V: Word> HashMap<V> {
     }
 
     // Keys of this home are looked for at so many places.
-    fn set_reach<L: Law>(self, tx: &mut Tx<'_, L>, home: u32, far: u32) -> Result<(), Stop>
+    fn set_reach<L: Law, S: Holds<L>>(
+        self,
+        tx: &mut Attempt<L, S>,
+        home: u32,
+        far: u32,
+    ) -> Result<(), Stop>
         requires home { home < self.cells.capacity }
         requires far { far ≤ self.cells.capacity }
         ensures goes { GoesOn L.holds tx.old tx.new }
@@ -233,7 +275,11 @@ impl<V: Word> HashMap<V> {
     }
 
     // Takes a key out of each place at which it is looked for.
-    pub(crate) fn clear<L: Law>(self, tx: &mut Tx<'_, L>, key: u64) -> Result<(), Stop>
+    pub(crate) fn clear<L: Law, S: Holds<L>>(
+        self,
+        tx: &mut Attempt<L, S>,
+        key: u64,
+    ) -> Result<(), Stop>
         ensures goes { GoesOn L.holds tx.old tx.new }
         ensures stops { IfErr result (λ stop. Stops (end_of self) tx.old.notes tx.old tx.new stop.why) }
         ensures clears { OnOk result (Does L.holds (end_of self) (ClearsAll self key)
@@ -249,7 +295,12 @@ impl<V: Word> HashMap<V> {
     }
 
     // Takes a key out of a place, if it stands there.
-    fn empty<L: Law>(self, tx: &mut Tx<'_, L>, at: u32, key: u64) -> Result<(), Stop>
+    fn empty<L: Law, S: Holds<L>>(
+        self,
+        tx: &mut Attempt<L, S>,
+        at: u32,
+        key: u64,
+    ) -> Result<(), Stop>
         requires { at < self.cells.capacity }
         ensures goes { GoesOn L.holds tx.old tx.new }
         ensures stops { IfErr result (λ stop. Stops (end_of self) tx.old.notes tx.old tx.new stop.why) }
@@ -266,7 +317,7 @@ impl<V: Word> HashMap<V> {
     }
 
     // At how many places keys of this home are looked for.
-    fn reach<L: Law>(self, tx: &mut Tx<'_, L>, home: u32) -> Result<u32, Stop>
+    fn reach<L: Law, S: Holds<L>>(self, tx: &mut Attempt<L, S>, home: u32) -> Result<u32, Stop>
         requires { home < self.cells.capacity }
         ensures goes { GoesOn L.holds tx.old tx.new }
         ensures stops { IfErr result (λ stop. Stops (end_of self) false tx.old tx.new stop.why) }

@@ -7,7 +7,7 @@ ghost use Rattle.dstm_structures.specs.Effects.{Does, GoesOn, StillMay, Stops};
 ghost use Rattle.dstm_structures.specs.Orders.{Ends, EndsAll, Follows, FollowsAll, IsInside, is_above, left_in, level_in, link_in, order_end, right_in};
 
 use crate::cells::{Rows, cell};
-use dstm_cells::{Cell, Stop, Tx};
+use dstm_cells::{Attempt, Cell, Holds, Stop};
 use dstm_model::Law;
 
 // The cells of an ordered map: behind those of the places there is one that holds the link to the whole trie, and then one
@@ -91,7 +91,11 @@ pub(crate) fn to_fork(at: u32) -> u64
 
 impl Order {
     // The place of the least key, or of the greatest one.
-    pub(crate) fn end<L: Law>(self, tx: &mut Tx<'_, L>, greatest: bool) -> Result<Option<u32>, Stop>
+    pub(crate) fn end<L: Law, S: Holds<L>>(
+        self,
+        tx: &mut Attempt<L, S>,
+        greatest: bool,
+    ) -> Result<Option<u32>, Stop>
         ensures goes { GoesOn L.holds tx.old tx.new }
         ensures stops { IfErr result (λ stop. Stops (order_end self.cells) false tx.old tx.new stop.why) }
         ensures within { IfOk result (λ place. IfSome place (λ at. at < self.cells.capacity)) }
@@ -105,7 +109,11 @@ impl Order {
     }
 
     // The place of the least key above this one.
-    pub(crate) fn next<L: Law>(self, tx: &mut Tx<'_, L>, key: u64) -> Result<Option<u32>, Stop>
+    pub(crate) fn next<L: Law, S: Holds<L>>(
+        self,
+        tx: &mut Attempt<L, S>,
+        key: u64,
+    ) -> Result<Option<u32>, Stop>
         ensures goes { GoesOn L.holds tx.old tx.new }
         ensures stops { IfErr result (λ stop. Stops (order_end self.cells) false tx.old tx.new stop.why) }
         ensures within { IfOk result (λ place. IfSome place (λ at. at < self.cells.capacity)) }
@@ -119,9 +127,9 @@ impl Order {
     }
 
     // The place of the least key below a link, or of the greatest one. The levels below the link are below this one.
-    pub(crate) fn edge<L: Law>(
+    pub(crate) fn edge<L: Law, S: Holds<L>>(
         self,
-        tx: &mut Tx<'_, L>,
+        tx: &mut Attempt<L, S>,
         link: u64,
         under: u32,
         greatest: bool,
@@ -149,9 +157,9 @@ impl Order {
     }
 
     // The place of the least key above this one below a link. The levels below the link are below this one.
-    pub(crate) fn above<L: Law>(
+    pub(crate) fn above<L: Law, S: Holds<L>>(
         self,
-        tx: &mut Tx<'_, L>,
+        tx: &mut Attempt<L, S>,
         link: u64,
         under: u32,
         key: u64,

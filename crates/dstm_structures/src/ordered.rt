@@ -12,7 +12,7 @@ ghost use Rattle.dstm_structures.specs.Orders.{order_end};
 use crate::cells::{Rows, number};
 use crate::map::{HashMap, Placed};
 use crate::order::Order;
-use dstm_cells::{Failed, MOST_CELLS, Memory, Stop, Tx, Word};
+use dstm_cells::{Attempt, Failed, Holds, MOST_CELLS, Memory, Stop, Word};
 use dstm_model::Law;
 
 /// A map of at most so many keys that also tells them by their order, in the cells of a memory. It is a name: copies of it
@@ -58,7 +58,11 @@ impl<V: Word> OrderedMap<V> {
     }
 
     /// The value of a key, if it is there. It reads what a `HashMap` reads.
-    pub fn get<L: Law>(self, tx: &mut Tx<'_, L>, key: u64) -> Result<Option<V>, Stop>
+    pub fn get<L: Law, S: Holds<L>>(
+        self,
+        tx: &mut Attempt<L, S>,
+        key: u64,
+    ) -> Result<Option<V>, Stop>
         ensures goes { GoesOn L.holds tx.old tx.new }
         ensures stops { IfErr result (λ stop. Stops (end_of self.map) false tx.old tx.new stop.why) }
         ensures tells { IfOk result (λ answer. Does L.holds (end_of self.map) (Tells V.found self.map key answer)
@@ -69,7 +73,11 @@ impl<V: Word> OrderedMap<V> {
     }
 
     /// Tells whether a key is there.
-    pub fn contains<L: Law>(self, tx: &mut Tx<'_, L>, key: u64) -> Result<bool, Stop>
+    pub fn contains<L: Law, S: Holds<L>>(
+        self,
+        tx: &mut Attempt<L, S>,
+        key: u64,
+    ) -> Result<bool, Stop>
         ensures goes { GoesOn L.holds tx.old tx.new }
         ensures stops { IfErr result (λ stop. Stops (end_of self.map) false tx.old tx.new stop.why) }
         ensures tells { IfOk result (λ answer. Does L.holds (end_of self.map) (TellsIf V.found self.map key answer)
@@ -80,7 +88,12 @@ impl<V: Word> OrderedMap<V> {
     }
 
     /// Gives a key this value, and adds the key where it is not there. Where it is there, nothing of the order is read.
-    pub fn put<L: Law>(self, tx: &mut Tx<'_, L>, key: u64, value: V) -> Result<Placed<V>, Stop>
+    pub fn put<L: Law, S: Holds<L>>(
+        self,
+        tx: &mut Attempt<L, S>,
+        key: u64,
+        value: V,
+    ) -> Result<Placed<V>, Stop>
         ensures goes { GoesOn L.holds tx.old tx.new }
         ensures stops { IfErr result (λ stop. Stops (order_end self.map.cells) tx.old.notes tx.old tx.new stop.why) }
         ensures puts { IfOk result (λ placed. Does L.holds (order_end self.map.cells) (Puts V.found self key value placed)
@@ -97,7 +110,11 @@ impl<V: Word> OrderedMap<V> {
     }
 
     /// Takes a key out, and answers its value, if it is there.
-    pub fn remove<L: Law>(self, tx: &mut Tx<'_, L>, key: u64) -> Result<Option<V>, Stop>
+    pub fn remove<L: Law, S: Holds<L>>(
+        self,
+        tx: &mut Attempt<L, S>,
+        key: u64,
+    ) -> Result<Option<V>, Stop>
         ensures goes { GoesOn L.holds tx.old tx.new }
         ensures stops { IfErr result (λ stop. Stops (order_end self.map.cells) tx.old.notes tx.old tx.new stop.why) }
         ensures removes { IfOk result (λ removed. Does L.holds (order_end self.map.cells) (Removes V.found self key removed)
@@ -114,7 +131,10 @@ impl<V: Word> OrderedMap<V> {
     }
 
     /// The first key with its value, if there is one.
-    pub fn first<L: Law>(self, tx: &mut Tx<'_, L>) -> Result<Option<(u64, V)>, Stop>
+    pub fn first<L: Law, S: Holds<L>>(
+        self,
+        tx: &mut Attempt<L, S>,
+    ) -> Result<Option<(u64, V)>, Stop>
         ensures goes { GoesOn L.holds tx.old tx.new }
         ensures stops { IfErr result (λ stop. Stops (order_end self.map.cells) false tx.old tx.new stop.why) }
         ensures tells { IfOk result (λ answer. Does L.holds (order_end self.map.cells) (TellsFirst V.found self answer)
@@ -125,7 +145,7 @@ impl<V: Word> OrderedMap<V> {
     }
 
     /// The last key with its value, if there is one.
-    pub fn last<L: Law>(self, tx: &mut Tx<'_, L>) -> Result<Option<(u64, V)>, Stop>
+    pub fn last<L: Law, S: Holds<L>>(self, tx: &mut Attempt<L, S>) -> Result<Option<(u64, V)>, Stop>
         ensures goes { GoesOn L.holds tx.old tx.new }
         ensures stops { IfErr result (λ stop. Stops (order_end self.map.cells) false tx.old tx.new stop.why) }
         ensures tells { IfOk result (λ answer. Does L.holds (order_end self.map.cells) (TellsLast V.found self answer)
@@ -136,7 +156,11 @@ impl<V: Word> OrderedMap<V> {
     }
 
     /// The first key above this one with its value, if there is one. The key itself need not be there.
-    pub fn next_above<L: Law>(self, tx: &mut Tx<'_, L>, key: u64) -> Result<Option<(u64, V)>, Stop>
+    pub fn next_above<L: Law, S: Holds<L>>(
+        self,
+        tx: &mut Attempt<L, S>,
+        key: u64,
+    ) -> Result<Option<(u64, V)>, Stop>
         ensures goes { GoesOn L.holds tx.old tx.new }
         ensures stops { IfErr result (λ stop. Stops (order_end self.map.cells) false tx.old tx.new stop.why) }
         ensures tells { IfOk result (λ answer. Does L.holds (order_end self.map.cells) (TellsAbove V.found self key answer)
@@ -152,7 +176,10 @@ impl<V: Word> OrderedMap<V> {
     }
 
     /// Takes the first key out, and answers it with its value, if there is one.
-    pub fn pop_first<L: Law>(self, tx: &mut Tx<'_, L>) -> Result<Option<(u64, V)>, Stop>
+    pub fn pop_first<L: Law, S: Holds<L>>(
+        self,
+        tx: &mut Attempt<L, S>,
+    ) -> Result<Option<(u64, V)>, Stop>
         ensures goes { GoesOn L.holds tx.old tx.new }
         ensures stops { IfErr result (λ stop. Stops (order_end self.map.cells) tx.old.notes tx.old tx.new stop.why) }
         ensures pops { IfOk result (λ popped. Does L.holds (order_end self.map.cells) (Pops V.found self popped)
@@ -168,7 +195,11 @@ impl<V: Word> OrderedMap<V> {
     }
 
     // The first key with its value, or the last one.
-    fn end<L: Law>(self, tx: &mut Tx<'_, L>, greatest: bool) -> Result<Option<(u64, V)>, Stop>
+    fn end<L: Law, S: Holds<L>>(
+        self,
+        tx: &mut Attempt<L, S>,
+        greatest: bool,
+    ) -> Result<Option<(u64, V)>, Stop>
         ensures goes { GoesOn L.holds tx.old tx.new }
         ensures stops { IfErr result (λ stop. Stops (order_end self.map.cells) false tx.old tx.new stop.why) }
         ensures tells { IfOk result (λ answer. Does L.holds (order_end self.map.cells) (TellsEnd V.found self greatest answer)
@@ -184,9 +215,9 @@ impl<V: Word> OrderedMap<V> {
     }
 
     // Adds a key that is not there.
-    pub(crate) fn add<L: Law>(
+    pub(crate) fn add<L: Law, S: Holds<L>>(
         self,
-        tx: &mut Tx<'_, L>,
+        tx: &mut Attempt<L, S>,
         key: u64,
         value: V,
     ) -> Result<Placed<V>, Stop>
@@ -212,7 +243,12 @@ impl<V: Word> OrderedMap<V> {
     }
 
     // Takes a key out that stands at this place.
-    fn take<L: Law>(self, tx: &mut Tx<'_, L>, key: u64, at: u32) -> Result<(), Stop>
+    fn take<L: Law, S: Holds<L>>(
+        self,
+        tx: &mut Attempt<L, S>,
+        key: u64,
+        at: u32,
+    ) -> Result<(), Stop>
         requires { at < self.map.cells.capacity }
         ensures goes { GoesOn L.holds tx.old tx.new }
         ensures stops { IfErr result (λ stop. Stops (order_end self.map.cells) tx.old.notes tx.old tx.new stop.why) }
@@ -229,7 +265,11 @@ impl<V: Word> OrderedMap<V> {
     }
 
     // The key of a place with its value, if it holds one.
-    fn entry<L: Law>(self, tx: &mut Tx<'_, L>, place: Option<u32>) -> Result<Option<(u64, V)>, Stop>
+    fn entry<L: Law, S: Holds<L>>(
+        self,
+        tx: &mut Attempt<L, S>,
+        place: Option<u32>,
+    ) -> Result<Option<(u64, V)>, Stop>
         requires { IfSome place (λ at. at < self.map.cells.capacity) }
         ensures goes { GoesOn L.holds tx.old tx.new }
         ensures stops { IfErr result (λ stop. Stops (order_end self.map.cells) false tx.old tx.new stop.why) }

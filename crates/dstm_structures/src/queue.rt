@@ -9,7 +9,7 @@ ghost use Rattle.dstm_structures.specs.Effects.{Does, GoesOn, Stops};
 ghost use Rattle.dstm_structures.specs.Queues.{Adds, Counts, Fronts, OpensEnds, OpensPlace, OpensToFront, OpensToPop, OpensToPush, Pops, PutsLast, Pushes, TakesFirst, end_of, within};
 
 use crate::cells::{Ring, behind, cell, next, number};
-use dstm_cells::{Cell, Failed, MOST_CELLS, Memory, Stop, Tx, Word, retry};
+use dstm_cells::{Attempt, Cell, Failed, Holds, MOST_CELLS, Memory, Stop, Word, retry};
 use dstm_model::Law;
 use std::marker::PhantomData;
 
@@ -53,7 +53,7 @@ impl<T: Word> Queue<T> {
     }
 
     /// How many values it has.
-    pub fn len<L: Law>(self, tx: &mut Tx<'_, L>) -> Result<u32, Stop>
+    pub fn len<L: Law, S: Holds<L>>(self, tx: &mut Attempt<L, S>) -> Result<u32, Stop>
         ensures goes { GoesOn L.holds tx.old tx.new }
         ensures stops { IfErr result (λ stop. Stops (end_of self) false tx.old tx.new stop.why) }
         ensures counts { IfOk result (λ count. Does L.holds (end_of self) (Counts T.found self count)
@@ -66,7 +66,11 @@ impl<T: Word> Queue<T> {
     }
 
     /// Puts a value at the end, and tells whether there was room.
-    pub fn try_push<L: Law>(self, tx: &mut Tx<'_, L>, value: T) -> Result<bool, Stop>
+    pub fn try_push<L: Law, S: Holds<L>>(
+        self,
+        tx: &mut Attempt<L, S>,
+        value: T,
+    ) -> Result<bool, Stop>
         ensures goes { GoesOn L.holds tx.old tx.new }
         ensures stops { IfErr result (λ stop. Stops (end_of self) tx.old.notes tx.old tx.new stop.why) }
         ensures pushes { IfOk result (λ pushed. Does L.holds (end_of self) (Pushes T.found self value pushed)
@@ -85,7 +89,7 @@ impl<T: Word> Queue<T> {
     }
 
     /// Puts a value at the end, once there is room.
-    pub fn push<L: Law>(self, tx: &mut Tx<'_, L>, value: T) -> Result<(), Stop>
+    pub fn push<L: Law, S: Holds<L>>(self, tx: &mut Attempt<L, S>, value: T) -> Result<(), Stop>
         ensures goes { GoesOn L.holds tx.old tx.new }
         ensures stops { IfErr result (λ stop. (stop.why ≡ Retry) ⊎ Stops (end_of self) tx.old.notes tx.old tx.new stop.why) }
         ensures retries { result ≡ Err (stop_by Retry) → Does L.holds (end_of self) (Counts T.found self self.cells.capacity)
@@ -102,7 +106,7 @@ impl<T: Word> Queue<T> {
     }
 
     /// Takes the first value, if there is one.
-    pub fn try_pop<L: Law>(self, tx: &mut Tx<'_, L>) -> Result<Option<T>, Stop>
+    pub fn try_pop<L: Law, S: Holds<L>>(self, tx: &mut Attempt<L, S>) -> Result<Option<T>, Stop>
         ensures goes { GoesOn L.holds tx.old tx.new }
         ensures stops { IfErr result (λ stop. Stops (end_of self) tx.old.notes tx.old tx.new stop.why) }
         ensures pops { IfOk result (λ popped. Does L.holds (end_of self) (Pops T.found self popped)
@@ -121,7 +125,7 @@ impl<T: Word> Queue<T> {
     }
 
     /// Takes the first value, once there is one.
-    pub fn pop<L: Law>(self, tx: &mut Tx<'_, L>) -> Result<T, Stop>
+    pub fn pop<L: Law, S: Holds<L>>(self, tx: &mut Attempt<L, S>) -> Result<T, Stop>
         ensures goes { GoesOn L.holds tx.old tx.new }
         ensures stops { IfErr result (λ stop. (stop.why ≡ Retry) ⊎ Stops (end_of self) tx.old.notes tx.old tx.new stop.why) }
         ensures retries { result ≡ Err (stop_by Retry) → Does L.holds (end_of self) (Counts T.found self 0)
@@ -141,7 +145,7 @@ impl<T: Word> Queue<T> {
     }
 
     /// The first value, if there is one.
-    pub fn front<L: Law>(self, tx: &mut Tx<'_, L>) -> Result<Option<T>, Stop>
+    pub fn front<L: Law, S: Holds<L>>(self, tx: &mut Attempt<L, S>) -> Result<Option<T>, Stop>
         ensures goes { GoesOn L.holds tx.old tx.new }
         ensures stops { IfErr result (λ stop. Stops (end_of self) false tx.old tx.new stop.why) }
         ensures fronts { IfOk result (λ front. Does L.holds (end_of self) (Fronts T.found self front)

@@ -11,7 +11,7 @@ ghost use Rattle.dstm_structures.specs.Sets.{Adds, Inserts, Pops, Removes, Tells
 
 use crate::map::Placed;
 use crate::ordered::OrderedMap;
-use dstm_cells::{Failed, Memory, Stop, Tx, Word};
+use dstm_cells::{Attempt, Failed, Holds, Memory, Stop, Word};
 use dstm_model::{Law, Val};
 
 /// A set of at most so many keys that also tells them by their order, in the cells of a memory. It is a name: copies of it
@@ -70,7 +70,11 @@ impl OrderedSet {
     }
 
     /// Tells whether a key is in the set. It reads what a `HashMap` reads.
-    pub fn contains<L: Law>(self, tx: &mut Tx<'_, L>, key: u64) -> Result<bool, Stop>
+    pub fn contains<L: Law, S: Holds<L>>(
+        self,
+        tx: &mut Attempt<L, S>,
+        key: u64,
+    ) -> Result<bool, Stop>
         ensures goes { GoesOn L.holds tx.old tx.new }
         ensures stops { IfErr result (λ stop. Stops (end_of self.map.map) false tx.old tx.new stop.why) }
         ensures tells { IfOk result (λ answer. Does L.holds (end_of self.map.map) (TellsIf self key answer)
@@ -81,7 +85,11 @@ impl OrderedSet {
     }
 
     /// Inserts a key, where it is not there. Where it is, nothing is set, and nothing of the order is read.
-    pub fn insert<L: Law>(self, tx: &mut Tx<'_, L>, key: u64) -> Result<Inserted, Stop>
+    pub fn insert<L: Law, S: Holds<L>>(
+        self,
+        tx: &mut Attempt<L, S>,
+        key: u64,
+    ) -> Result<Inserted, Stop>
         ensures goes { GoesOn L.holds tx.old tx.new }
         ensures stops { IfErr result (λ stop. Stops (order_end self.map.map.cells) tx.old.notes tx.old tx.new stop.why) }
         ensures inserts { IfOk result (λ inserted. Does L.holds (order_end self.map.map.cells) (Inserts self key inserted)
@@ -97,7 +105,7 @@ impl OrderedSet {
     }
 
     /// Takes a key out, and tells whether it was there.
-    pub fn remove<L: Law>(self, tx: &mut Tx<'_, L>, key: u64) -> Result<bool, Stop>
+    pub fn remove<L: Law, S: Holds<L>>(self, tx: &mut Attempt<L, S>, key: u64) -> Result<bool, Stop>
         ensures goes { GoesOn L.holds tx.old tx.new }
         ensures stops { IfErr result (λ stop. Stops (order_end self.map.map.cells) tx.old.notes tx.old tx.new stop.why) }
         ensures removes { IfOk result (λ removed. Does L.holds (order_end self.map.map.cells) (Removes self key removed)
@@ -109,7 +117,7 @@ impl OrderedSet {
     }
 
     /// The first key, if there is one.
-    pub fn first<L: Law>(self, tx: &mut Tx<'_, L>) -> Result<Option<u64>, Stop>
+    pub fn first<L: Law, S: Holds<L>>(self, tx: &mut Attempt<L, S>) -> Result<Option<u64>, Stop>
         ensures goes { GoesOn L.holds tx.old tx.new }
         ensures stops { IfErr result (λ stop. Stops (order_end self.map.map.cells) false tx.old tx.new stop.why) }
         ensures tells { IfOk result (λ answer. Does L.holds (order_end self.map.map.cells) (TellsFirst self answer)
@@ -121,7 +129,7 @@ impl OrderedSet {
     }
 
     /// The last key, if there is one.
-    pub fn last<L: Law>(self, tx: &mut Tx<'_, L>) -> Result<Option<u64>, Stop>
+    pub fn last<L: Law, S: Holds<L>>(self, tx: &mut Attempt<L, S>) -> Result<Option<u64>, Stop>
         ensures goes { GoesOn L.holds tx.old tx.new }
         ensures stops { IfErr result (λ stop. Stops (order_end self.map.map.cells) false tx.old tx.new stop.why) }
         ensures tells { IfOk result (λ answer. Does L.holds (order_end self.map.map.cells) (TellsLast self answer)
@@ -133,7 +141,11 @@ impl OrderedSet {
     }
 
     /// The first key above this one, if there is one. The key itself need not be there.
-    pub fn next_above<L: Law>(self, tx: &mut Tx<'_, L>, key: u64) -> Result<Option<u64>, Stop>
+    pub fn next_above<L: Law, S: Holds<L>>(
+        self,
+        tx: &mut Attempt<L, S>,
+        key: u64,
+    ) -> Result<Option<u64>, Stop>
         ensures goes { GoesOn L.holds tx.old tx.new }
         ensures stops { IfErr result (λ stop. Stops (order_end self.map.map.cells) false tx.old tx.new stop.why) }
         ensures tells { IfOk result (λ answer. Does L.holds (order_end self.map.map.cells) (TellsAbove self key answer)
@@ -145,7 +157,7 @@ impl OrderedSet {
     }
 
     /// Takes the first key out, and answers it, if there is one.
-    pub fn pop_first<L: Law>(self, tx: &mut Tx<'_, L>) -> Result<Option<u64>, Stop>
+    pub fn pop_first<L: Law, S: Holds<L>>(self, tx: &mut Attempt<L, S>) -> Result<Option<u64>, Stop>
         ensures goes { GoesOn L.holds tx.old tx.new }
         ensures stops { IfErr result (λ stop. Stops (order_end self.map.map.cells) tx.old.notes tx.old tx.new stop.why) }
         ensures pops { IfOk result (λ popped. Does L.holds (order_end self.map.map.cells) (Pops self popped)

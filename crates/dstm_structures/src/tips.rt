@@ -8,7 +8,7 @@ ghost use Rattle.dstm_structures.specs.Tips.{AddsBeside, AddsKey, AddsOver, Adds
 
 use crate::cells::behind;
 use crate::order::{Fork, Link, Order, fork_of, held_of, to_fork, to_tip};
-use dstm_cells::{Stop, Tx};
+use dstm_cells::{Attempt, Holds, Stop};
 use dstm_model::Law;
 
 // A key that is added: itself, its place, and the cell of the fork that parts it from others.
@@ -21,9 +21,9 @@ struct Added {
 
 impl Order {
     // Adds a key that is not there and stands at this place, by a fork in this cell.
-    pub(crate) fn add<L: Law>(
+    pub(crate) fn add<L: Law, S: Holds<L>>(
         self,
-        tx: &mut Tx<'_, L>,
+        tx: &mut Attempt<L, S>,
         key: u64,
         at: u32,
         cell: u32,
@@ -43,7 +43,12 @@ impl Order {
     }
 
     // Takes a key out that stands at this place.
-    pub(crate) fn drop_key<L: Law>(self, tx: &mut Tx<'_, L>, key: u64, at: u32) -> Result<(), Stop>
+    pub(crate) fn drop_key<L: Law, S: Holds<L>>(
+        self,
+        tx: &mut Attempt<L, S>,
+        key: u64,
+        at: u32,
+    ) -> Result<(), Stop>
         ensures goes { GoesOn L.holds tx.old tx.new }
         ensures stops { IfErr result (λ stop. Stops (order_end self.cells) tx.old.notes tx.old tx.new stop.why) }
         ensures drops { OnOk result (Does L.holds (order_end self.cells) (DropsKey self.cells key at)
@@ -57,9 +62,9 @@ impl Order {
     }
 
     // The first fork's cell that is free, from this one on, in a circle.
-    pub(crate) fn free_fork<L: Law>(
+    pub(crate) fn free_fork<L: Law, S: Holds<L>>(
         self,
-        tx: &mut Tx<'_, L>,
+        tx: &mut Attempt<L, S>,
         home: u32,
     ) -> Result<Option<u32>, Stop>
         requires { home < self.cells.capacity }
@@ -81,9 +86,9 @@ impl Order {
     }
 
     // Adds a key below a link, and answers the link that leads there now. The levels below the link are below this one.
-    fn add_below<L: Law>(
+    fn add_below<L: Law, S: Holds<L>>(
         self,
-        tx: &mut Tx<'_, L>,
+        tx: &mut Attempt<L, S>,
         added: Added,
         link: u64,
         under: u32,
@@ -124,7 +129,12 @@ impl Order {
     }
 
     // Adds a key beside the tip of this place.
-    fn add_beside<L: Law>(self, tx: &mut Tx<'_, L>, added: Added, place: u32) -> Result<u64, Stop>
+    fn add_beside<L: Law, S: Holds<L>>(
+        self,
+        tx: &mut Attempt<L, S>,
+        added: Added,
+        place: u32,
+    ) -> Result<u64, Stop>
         requires at { added.at < self.cells.capacity }
         requires cell { added.cell < self.cells.capacity }
         requires place { place < self.cells.capacity }
@@ -156,9 +166,9 @@ impl Order {
     }
 
     // Adds a key beside all tips of a fork, whose keys have another prefix than it has.
-    fn add_over<L: Law>(
+    fn add_over<L: Law, S: Holds<L>>(
         self,
-        tx: &mut Tx<'_, L>,
+        tx: &mut Attempt<L, S>,
         added: Added,
         over: u32,
         fork: Fork,
@@ -195,9 +205,9 @@ impl Order {
 
     // Takes a key that stands at this place out below a link, and answers the link that leads there now. The levels below the
     // link are below this one.
-    fn drop_below<L: Law>(
+    fn drop_below<L: Law, S: Holds<L>>(
         self,
-        tx: &mut Tx<'_, L>,
+        tx: &mut Attempt<L, S>,
         key: u64,
         at: u32,
         link: u64,
@@ -242,7 +252,11 @@ impl Order {
     }
 
     // What the cell of a fork tells.
-    pub(crate) fn look_fork<L: Law>(self, tx: &mut Tx<'_, L>, cell: u32) -> Result<Fork, Stop>
+    pub(crate) fn look_fork<L: Law, S: Holds<L>>(
+        self,
+        tx: &mut Attempt<L, S>,
+        cell: u32,
+    ) -> Result<Fork, Stop>
         requires { cell < self.cells.capacity }
         ensures goes { GoesOn L.holds tx.old tx.new }
         ensures stops { IfErr result (λ stop. Stops (order_end self.cells) false tx.old tx.new stop.why) }
@@ -257,7 +271,12 @@ impl Order {
     }
 
     // Sets the cell of a fork.
-    fn set_fork<L: Law>(self, tx: &mut Tx<'_, L>, cell: u32, fork: Fork) -> Result<(), Stop>
+    fn set_fork<L: Law, S: Holds<L>>(
+        self,
+        tx: &mut Attempt<L, S>,
+        cell: u32,
+        fork: Fork,
+    ) -> Result<(), Stop>
         requires cell { cell < self.cells.capacity }
         requires level { fork.level < 64 }
         requires left { fork.left < 268435456 }
@@ -273,9 +292,9 @@ impl Order {
     }
 
     // Sets the link to one side of a fork, where that is another one.
-    fn set_side<L: Law>(
+    fn set_side<L: Law, S: Holds<L>>(
         self,
-        tx: &mut Tx<'_, L>,
+        tx: &mut Attempt<L, S>,
         cell: u32,
         fork: Fork,
         greater: bool,
@@ -301,7 +320,12 @@ impl Order {
     }
 
     // Sets the link to the whole trie, where that is another one.
-    fn set_root<L: Law>(self, tx: &mut Tx<'_, L>, was: u64, now: u64) -> Result<(), Stop>
+    fn set_root<L: Law, S: Holds<L>>(
+        self,
+        tx: &mut Attempt<L, S>,
+        was: u64,
+        now: u64,
+    ) -> Result<(), Stop>
         ensures goes { GoesOn L.holds tx.old tx.new }
         ensures stops { IfErr result (λ stop. Stops (order_end self.cells) tx.old.notes tx.old tx.new stop.why) }
         ensures sets { OnOk result (Does L.holds (order_end self.cells) (SetsRoot self.cells was now)
@@ -317,7 +341,7 @@ impl Order {
     }
 
     // Makes the cell of a fork free.
-    fn clear_fork<L: Law>(self, tx: &mut Tx<'_, L>, cell: u32) -> Result<(), Stop>
+    fn clear_fork<L: Law, S: Holds<L>>(self, tx: &mut Attempt<L, S>, cell: u32) -> Result<(), Stop>
         requires { cell < self.cells.capacity }
         ensures goes { GoesOn L.holds tx.old tx.new }
         ensures stops { IfErr result (λ stop. Stops (order_end self.cells) tx.old.notes tx.old tx.new stop.why) }

@@ -10,6 +10,6 @@ abbrev pub invariant-loop-seat : goal.invariant-loop-seat
 invariant-loop-seat g l = record {
   rest : l.yielded ++ into_iter_items l.seat-iterator ≡ l.fn.seats.items;
   table : home_there l.founder ≡ l.fn.table;
-  takes : (other : Seat _ _) →
+  takes : (other : Seat _) →
       TakesBackEach g.L.Law.holds (length l.yielded) l.fn.founder (caller_at l.fn.seats.items other) l.founder;
 }

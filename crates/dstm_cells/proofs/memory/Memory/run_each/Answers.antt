@@ -12,13 +12,13 @@ use Rattle.dstm_cells.specs.declared.error.GaveUp.TheVariants.{Spent}
 use Rattle.dstm_cells.specs.declared.memory.Ended.{Ended}
 use Rattle.dstm_cells.proofs.Calling.{is_err}
 use Rattle.dstm_cells.proofs.Running.{CalledUpTo, count_each, each_called, each_leaves, has_run, no_end, not_read, tells_each, told_each, told_of, untaken, untaken_leaves}
-use Rattle.dstm_cells.proofs.Sends.{seat_send}
+use Rattle.dstm_cells.proofs.Sends.{attempt_send, seat_send, table_sync}
 use Rattle.dstm_cells.proofs.memory.Memory.run_each.Given.{Over}
 use Rattle.dstm_cells.proofs.memory.Memory.run_each.Goals.{After-all_answers}
 use Rattle.dstm_cells.proofs.memory.Memory.run_each.Goals as goal
 
 pub map_vec-requires-send-J : goal.map_vec-requires-send-J
-map_vec-requires-send-J g c κs within = search (seat_send, AnyLaw.the_sync, crosses, sendable) depth 20
+map_vec-requires-send-J g c κs within = search (seat_send, attempt_send, table_sync, AnyLaw.the_sync, crosses, sendable) depth 20
 
 -- as many have ended as there are threads
 as_many : (g : Over) (c : After-all_answers g) → length c.in_ok-ends.ends.items ≡ c.args.threads

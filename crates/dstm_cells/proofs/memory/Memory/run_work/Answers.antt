@@ -14,13 +14,21 @@ use Rattle.dstm_cells.specs.Runs.{AreAt, FailsFor, IsWorked, RanInTurn, TakesBac
 use Rattle.dstm_cells.specs.declared.memory.Seat.{Seat}
 use Rattle.dstm_cells.proofs.Calling.{is_err}
 use Rattle.dstm_cells.proofs.Running.{founded_none, given_out, lent_back, made_back, made_each, not_taken, ran_leaves, some_of, told, untaken, untaken_leaves}
-use Rattle.dstm_cells.proofs.Sends.{seat_send}
+use Rattle.dstm_cells.proofs.Sends.{attempt_send, seat_send, table_sync}
 use Rattle.dstm_cells.proofs.memory.Memory.run_work.Given.{Over}
 use Rattle.dstm_cells.proofs.memory.Memory.run_work.Goals.{After-how_all_ended-ended}
 use Rattle.dstm_cells.proofs.memory.Memory.run_work.Goals as goal
 
 pub for_each_mut-requires-send-T : goal.for_each_mut-requires-send-T
-for_each_mut-requires-send-T g c κs within = search (seat_send, c.type_bounds.sync-L, crosses, sendable) depth 20
+for_each_mut-requires-send-T g c κs within = search (seat_send, attempt_send, table_sync _ g.L.Law c.type_bounds.sync-L, crosses, sendable) depth 20
+
+-- what a list is of
+abbrev ElementOf : {A : Type 0} → List A → Type 0
+ElementOf {A} xs = A
+
+-- a seat of the run
+abbrev SeatOf : (g : Over) → After-how_all_ended-ended g → Type 0
+SeatOf g c = ElementOf c.for_each_mut.new.s
 
 -- the threads have left a seat each
 seats_left : (g : Over) (c : After-how_all_ended-ended g) →
@@ -29,11 +37,11 @@ seats_left g c =
     lent_back c.in_ok-seats.seats.items c.in_ok-seats.ensures.count c.deref.ensures.value (search rules) (search rules)
 
 -- the work of each number was done on its seat
-worked : (g : Over) (c : After-how_all_ended-ended g) (other : Seat g.row.L.Denot g.L.Law) (number : ℕ) → number < c.args.threads →
+worked : (g : Over) (c : After-how_all_ended-ended g) (other : SeatOf g c) (number : ℕ) → number < c.args.threads →
     IsWorked (g.W.Work.ends c.args.work.now) (g.W.Work.does c.args.work.now) number
     (slice_index_or c.in_ok-seats.seats.items number other) (slice_index_or c.for_each_mut.new.s number other)
 worked g c other number below =
-    let is : (old new : Seat g.row.L.Denot g.L.Law) → Type 0 =
+    let is : (old new : SeatOf g c) → Type 0 =
     λ old new. IsWorked (g.W.Work.ends c.args.work.now) (g.W.Work.does c.args.work.now) number old new in
     let some : length c.deref_mut.result.now ≡ c.args.threads = ap length c.deref_mut.ensures.value ∙ c.in_ok-seats.ensures.count in
     let change = (c.for_each_mut.ensures number other (omega (arith, some, below))).1 in
@@ -42,7 +50,7 @@ worked g c other number below =
     (change.argument_is ∙ ap (λ (xs : List _). slice_index_or xs number other) c.deref_mut.ensures.value) change.call)
 
 -- and so it tells
-tells : (g : Over) (c : After-how_all_ended-ended g) (other : Seat g.row.L.Denot g.L.Law) (unread : Type 0) →
+tells : (g : Over) (c : After-how_all_ended-ended g) (other : SeatOf g c) (unread : Type 0) →
     OnOk c.how_all_ended-ended.result ((number : ℕ) → number < c.args.threads → g.W.Work.ends c.args.work.now number (Ok tt))
     × IfErr c.how_all_ended-ended.result (FailsFor (g.W.Work.ends c.args.work.now) unread c.args.threads)
 tells g c other unread =
@@ -51,16 +59,16 @@ tells g c other unread =
     unread c.how_all_ended-ended.result c.how_all_ended-ended.ensures.well c.how_all_ended-ended.ensures.first
 
 -- a seat
-some_seat : (g : Over) (c : After-how_all_ended-ended g) → Seat g.row.L.Denot g.L.Law
+some_seat : (g : Over) (c : After-how_all_ended-ended g) → SeatOf g c
 some_seat g c = some_of c.in_ok-seats.seats.items (omega (arith, c.in_ok-seats.ensures.count, c.in_ok-table.ensures.threads.0))
 
 -- the parts that the threads have left are of the table
-parts_left : (g : Over) (c : After-how_all_ended-ended g) (seats : List (Seat g.row.L.Denot g.L.Law)) → seats ≡ c.for_each_mut.new.s →
+parts_left : (g : Over) (c : After-how_all_ended-ended g) (seats : List (SeatOf g c)) → seats ≡ c.for_each_mut.new.s →
     length seats ≡ c.args.threads → AreAt c.in_ok-table.table seats
 parts_left g c seats is size number other below =
     let within : number < c.args.threads = omega (arith, size, below) in
     let new = c.in_ok-seats.ensures.new number other (omega (arith, c.in_ok-seats.ensures.count, within)) in
-    subst (λ (xs : List (Seat g.row.L.Denot g.L.Law)). home_of (caller_at xs other number) ≡ c.in_ok-table.table) (sym is)
+    subst (λ (xs : List (SeatOf g c)). home_of (caller_at xs other number) ≡ c.in_ok-table.table) (sym is)
     ((worked g c other number within).2 ∙ new.home)
 
 pub retire_all-requires : goal.retire_all-requires
@@ -74,7 +82,7 @@ retire_all-requires g c =
 -- the parts that the threads have left were taken back by this founder
 abbrev pub Taken : (g : Over) → After-how_all_ended-ended g → Founder g.row.L.Denot → Type 0
 Taken g c back =
-    (seats : List (Seat g.row.L.Denot g.L.Law)) × (seats ≡ c.for_each_mut.new.s) × (length seats ≡ c.args.threads)
+    (seats : List (SeatOf g c)) × (seats ≡ c.for_each_mut.new.s) × (length seats ≡ c.args.threads)
     × TakesBackSeats g.L.Law.holds c.seats.new.founder seats back
 
 -- the run, step by step, of whatever came of the founder in the end
@@ -97,7 +105,7 @@ in_turn g c back (seats, is, size, takes) ended last ends =
       left = caller_at c.for_each_mut.new.s other;
       done = λ number below. (worked g c other number below).1;
       back = back;
-      takes_back = subst (λ (xs : List (Seat g.row.L.Denot g.L.Law)). TakesBackEach holds c.args.threads out (caller_at xs other) back) is
+      takes_back = subst (λ (xs : List (SeatOf g c)). TakesBackEach holds c.args.threads out (caller_at xs other) back) is
           (subst (λ n. TakesBackEach holds n out (caller_at seats other) back) size (takes other));
       last = last;
       ends = ends;
@@ -166,5 +174,5 @@ returns-in_err-take-clause-fails g c =
 pub returns-clause-threads : goal.returns-clause-threads
 returns-clause-threads g c =
     on_ok_weaker c.how_all_ended-ended.result
-    (λ (well : All (λ (seat : Seat g.row.L.Denot g.L.Law). seat.ended ≡ Ok tt) c.deref.result.now). c.in_ok-table.ensures.threads)
+    (λ (well : All (λ (seat : Seat _). seat.ended ≡ Ok tt) c.deref.result.now). c.in_ok-table.ensures.threads)
     c.how_all_ended-ended.ensures.well

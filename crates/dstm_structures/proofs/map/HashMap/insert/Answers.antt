@@ -7,7 +7,8 @@ use Rattle.dstm_tables.specs.Tables.{objects_there}
 use Rattle.dstm_attempts.specs.Attempts.{Attempt}
 use Rattle.dstm_cells.specs.declared.error.Why.{Why}
 use Rattle.dstm_cells.specs.declared.error.Why.TheVariants.{Again, Retry, Foreign, Memory}
-use Rattle.dstm_cells.specs.declared.under_way.Tx.{Tx}
+use Rattle.dstm_cells.specs.declared.holds.Holds.{Ghosts as Holding}
+use Rattle.dstm_cells.specs.declared.under_way.Attempt.{Attempt as Tx}
 use Rattle.dstm_structures.specs.Effects.{GoesOn, Stops, goes-again}
 use Rattle.dstm_structures.specs.Maps.{Frees, end_of}
 use Rattle.dstm_structures.proofs.Doing.{does-is, does-then, does-thrice}
@@ -53,9 +54,9 @@ returns-clause-inserts g c =
 pub returns-in_err-store-clause-stops : goal.returns-in_err-store-clause-stops
 returns-in_err-store-clause-stops g c = let stay = goes-stay c.in_ok-free.ensures.goes ∙ goes-stay c.in_ok-reach.ensures.goes in grind (arith, common_steps)
 
-module _ {L : Type 0} {ghosts : Ghosts L} {holds : L → List Val → Type 0} {k m : Tx L ghosts} where
+module _ {L S : Type 0} {ghosts : Ghosts L} {holding : Holding S L} {holds : L → List Val → Type 0} {k m : Tx L S ghosts holding} where
   -- why a call stops that sets, behind others
-  stops-later : GoesOn holds k m → (size : ℕ) (n : Tx L ghosts) (why : Why) → Stops size m.notes m n why →
+  stops-later : GoesOn holds k m → (size : ℕ) (n : Tx L S ghosts holding) (why : Why) → Stops size m.notes m n why →
       Stops size k.notes k n why
   stops-later goes size n Again stops = stops
   stops-later goes size n Retry stops = stops

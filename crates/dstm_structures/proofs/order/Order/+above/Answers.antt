@@ -50,7 +50,7 @@ returns-then-part-fork-2-clause-follows g t c =
 
 pub above-requires : goal.above-requires
 above-requires g t c κs within =
-    (omega (arith, c.if-fork-under.false, c.decreases), (within, omega (arith, c.if-fork-under.false, c.requires)))
+    (omega (arith, c.if-fork-under.false, c.decreases), (within.0, (within.1, omega (arith, c.if-fork-under.false, c.requires))))
 
 pub returns-then-part-eq1-clause-follows : goal.returns-then-part-eq1-clause-follows
 returns-then-part-eq1-clause-follows g t c =
@@ -64,7 +64,7 @@ returns-then-part-eq1-clause-follows g t c =
 
 pub above-requires-in-Fork : goal.above-requires-in-Fork
 above-requires-in-Fork g t c κs within =
-    (omega (arith, c.if-fork-under.false, c.decreases), (within, omega (arith, c.if-fork-under.false, c.requires)))
+    (omega (arith, c.if-fork-under.false, c.decreases), (within.0, (within.1, omega (arith, c.if-fork-under.false, c.requires))))
 
 pub returns-in-Some-clause-follows : goal.returns-in-Some-clause-follows
 returns-in-Some-clause-follows g t c =

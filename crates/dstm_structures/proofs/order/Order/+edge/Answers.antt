@@ -24,7 +24,7 @@ returns-then-fork-under-clause-ends g t c =
 
 pub edge-requires : goal.edge-requires
 edge-requires g t c κs within =
-    (omega (arith, c.if-fork-under.false, c.decreases), (within, omega (arith, c.if-fork-under.false, c.requires)))
+    (omega (arith, c.if-fork-under.false, c.decreases), (within.0, (within.1, omega (arith, c.if-fork-under.false, c.requires))))
 
 pub returns-in_ok-place-in-Fork-clause-ends : goal.returns-in_ok-place-in-Fork-clause-ends
 returns-in_ok-place-in-Fork-clause-ends g t c =

@@ -1,0 +1,17 @@
+use Rattle.std.proofs.Common.{refl}
+use Rattle.dstm_cells.proofs.under_way.Attempt.follow.Goals as goal
+
+pub returns-in-Again-clause-stays : goal.returns-in-Again-clause-stays
+returns-in-Again-clause-stays g c = rw c.in-Again.is refl
+
+pub returns-in-Retry-clause-stays : goal.returns-in-Retry-clause-stays
+returns-in-Retry-clause-stays g c = rw c.in-Retry.is c.wait.ensures.stays
+
+pub returns-in-Retry-clause-follows : goal.returns-in-Retry-clause-follows
+returns-in-Retry-clause-follows g c = rw c.in-Retry.is c.wait.ensures.follows
+
+pub returns-in-Foreign-clause-stays : goal.returns-in-Foreign-clause-stays
+returns-in-Foreign-clause-stays g c = rw c.in-Foreign.is refl
+
+pub returns-in-Memory-clause-stays : goal.returns-in-Memory-clause-stays
+returns-in-Memory-clause-stays g c = rw c.in-Memory.is refl
