@@ -4,7 +4,7 @@ use Rattle.dstm_model.specs.declared.value.Val.{Val}
 use Rattle.dstm_engine.specs.Attempts.{sights}
 use Rattle.dstm_tables.specs.declared.tables.Caller.{Caller}
 use Rattle.dstm_tables.specs.declared.tables.Caller.TheVariants.{Dstm, Tl2}
-use Rattle.dstm_attempts.specs.Attempts.{AddsNothing, Begins, BeginsNone, IsAbandoned, IsLost, IsNotOpened, IsQuit, IsSpent, Keeps, LooksChanged, LooksOnce, LooksSpent, Opens, begun, clock, is_under_way, objects_of}
+use Rattle.dstm_attempts.specs.Attempts.{AddsNothing, Begins, BeginsNone, IsAbandoned, IsClosed, IsLost, IsNotOpened, IsQuit, IsSpent, Keeps, LooksChanged, LooksOnce, LooksSpent, Opens, begun, clock, is_under_way, objects_of}
 use Rattle.dstm_attempts.specs.Waiting.{FindsChange, HasNoRoom, IsSpentLettingGo, LetsGo, RenewsNothing}
 use Rattle.dstm_attempts.specs.declared.error.NotOpened.TheVariants.{Over}
 use Rattle.dstm_cells.specs.declared.error.GaveUp.{GaveUp}
@@ -38,6 +38,16 @@ module _ {L : Type 0} where
   StaysFor Retry old new = StaysWaiting old new
   StaysFor Foreign old new = Keeps old new
   StaysFor Memory old new = Keeps old new
+
+  -- What follows where a closure was told that an attempt is over: a further one where it is its own; where its own is under way,
+  -- it was told so of another transaction, and none.
+  abbrev pub FollowsOver : Caller L → Result (Unit {0}) GaveUp → Type 0
+  FollowsOver k (Ok x) = IsClosed k
+  FollowsOver k (Err Spent) = ⊥
+  FollowsOver k (Err Idle) = ⊥
+  FollowsOver k (Err gave_up.Foreign) = ⊥
+  FollowsOver k (Err gave_up.Memory) = ⊥
+  FollowsOver k (Err gave_up.Elsewhere) = is_under_way k ≡ true
 
   module _ (holds : L → List Val → Type 0) where
     -- An attempt was left, so that nothing of it has taken effect. It was under way until then, where that is told; else it was
@@ -139,6 +149,7 @@ module _ {L : Type 0} where
     FollowsLooks looks k n (Err Idle) = WaitedInVain looks k n
     FollowsLooks looks k n (Err gave_up.Foreign) = ⊥
     FollowsLooks looks k n (Err gave_up.Memory) = ⊥
+    FollowsLooks looks k n (Err gave_up.Elsewhere) = ⊥
 
     -- where an attempt has not let go of what it had set: something had changed; or no attempt, or no memory, was left for that
     abbrev pub DoesNotLetGo : Caller L → Caller L → Result (Unit {0}) GaveUp → Type 0
@@ -147,6 +158,7 @@ module _ {L : Type 0} where
     DoesNotLetGo k n (Err Idle) = ⊥
     DoesNotLetGo k n (Err gave_up.Foreign) = ⊥
     DoesNotLetGo k n (Err gave_up.Memory) = HasNoRoom k n
+    DoesNotLetGo k n (Err gave_up.Elsewhere) = ⊥
 
     -- an attempt has let go of what it had set, and then it was looked
     pub record LooksWithoutHolding (looks : ℕ) (k n : Caller L) (next : Result (Unit {0}) GaveUp) : Type 0 where
@@ -160,7 +172,7 @@ module _ {L : Type 0} where
 
     -- WHAT FOLLOWS WHERE A CLOSURE STOPS ITS ATTEMPT: a further attempt, or none, and why; and how that leaves the caller
     abbrev pub Follows : (looks : ℕ) → Caller L → Why → Caller L → Result (Unit {0}) GaveUp → Type 0
-    Follows looks k Again n next = next ≡ Ok tt
+    Follows looks k Again n next = FollowsOver k next
     Follows looks k Retry n next = FollowsRetry looks k n next
     Follows looks k Foreign n next = next ≡ Err gave_up.Foreign
     Follows looks k Memory n next = next ≡ Err gave_up.Memory

@@ -10,6 +10,7 @@ text_of_end gave_up.Spent = codes "a thread's attempts are used up"
 text_of_end gave_up.Idle = codes "a transaction waited in vain"
 text_of_end gave_up.Foreign = codes "the memory has no such cell"
 text_of_end gave_up.Memory = codes "out of memory"
+text_of_end gave_up.Elsewhere = codes "another transaction is over"
 
 abbrev pub text_of_failure : Failed → List ℕ
 text_of_failure failed.Full = codes "the memory has no room for another cell"

@@ -63,7 +63,7 @@ impl<'a> BackOff<'a> {
     pub(crate) fn stop(&mut self, stop: &Stop) {
         if !matches!(stop, Stop { why: Why::Again }) {
             self.waited = true;
-            self.end();
+            self.settle();
         }
     }
 
@@ -81,7 +81,7 @@ impl<'a> BackOff<'a> {
 
     /// The transaction has ended, or begins anew.
     #[inline(always)]
-    pub(crate) fn end(&mut self) {
+    pub(crate) fn settle(&mut self) {
         if self.lost > 0 {
             self.renew();
         }

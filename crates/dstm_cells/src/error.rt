@@ -14,7 +14,7 @@ pub struct Stop {
 // Why a call has stopped a closure.
 #[derive(Clone, Copy, Debug, PartialEq, Eq)]
 pub enum Why {
-    /// Another transaction came between. The closure is called again at once.
+    /// Another transaction came between. The closure is called again at once, where its own attempt is over.
     Again,
     /// It cannot go on with what it has read. It is called again once some of this has changed; by TL2 once any transaction
     /// may have taken effect.
@@ -38,6 +38,8 @@ pub enum GaveUp {
     Foreign,
     /// There was not enough memory.
     Memory,
+    /// The closure was stopped by a call on another transaction, which is over; its own was still under way.
+    Elsewhere,
 }
 
 /// Why a call on a memory failed.
@@ -69,6 +71,7 @@ impl fmt::Display for GaveUp {
             GaveUp::Idle => write!(f, "a transaction waited in vain"),
             GaveUp::Foreign => write!(f, "the memory has no such cell"),
             GaveUp::Memory => write!(f, "out of memory"),
+            GaveUp::Elsewhere => write!(f, "another transaction is over"),
         }
     }
 }

@@ -106,6 +106,7 @@ impl<X: Transaction> Part<'_, X> {
         ensures patience { KeepsPatience X.patience F.FnMut → X.patience self.new.tx ≡ X.patience self.old.tx }
     {
         let mut f = f;
+        self.back_off.settle();
         self.tx.renew();
         for _number in 0..self.tx.attempts() {
             self.back_off.enter();
@@ -113,7 +114,7 @@ impl<X: Transaction> Part<'_, X> {
             match f(&mut self.tx) {
                 Ok(answer) => {
                     if end(&mut self.tx, commits) {
-                        self.back_off.end();
+                        self.back_off.settle();
                         return Ok(answer);
                     }
                 }

@@ -3,7 +3,7 @@ ghost use Rattle.std.specs.Prelude.{◌++◌, ◌⊎◌, ◌≡◌, List, [], �
 ghost use Rattle.dstm_tables.specs.Callers.{done, home_of, law_of};
 ghost use Rattle.dstm_attempts.specs.Attempts.{Exchanges, Finds, IsClosed, IsUntouched, Keeps, MayBegin, Opens, StoodTogether, objects_of};
 ghost use Rattle.dstm_cells.specs.Alternatives.{Notes, NotesOnce, OpensAndSets, OrElse, noting, settings};
-ghost use Rattle.dstm_cells.specs.Attempts.{CouldNotRead, Follows, FollowsLooks, FollowsRetry, ReadsInTurn, StaysFor, StaysLooking, StaysWaiting, StopsReading};
+ghost use Rattle.dstm_cells.specs.Attempts.{CouldNotRead, Follows, FollowsLooks, FollowsOver, FollowsRetry, ReadsInTurn, StaysFor, StaysLooking, StaysWaiting, StopsReading};
 ghost use Rattle.dstm_cells.specs.Cells.{ReadsAll};
 ghost use Rattle.dstm_cells.specs.Closures.{KeepsOnce};
 ghost use Rattle.dstm_cells.specs.UnderWay.{Changes, Gets, Refuses, StopsChange, StopsLook, stop_by};
@@ -195,11 +195,21 @@ impl<L: Law, S: Holds<L>> Attempt<L, S> {
         ensures follows { Follows L.holds self.old.looks self.old.attempts.caller why self.new.attempts.caller result }
     {
         match why {
-            Why::Again => Ok(()),
+            Why::Again => self.over(),
             Why::Retry => self.wait(),
             Why::Foreign => Err(GaveUp::Foreign),
             Why::Memory => Err(GaveUp::Memory),
         }
+    }
+
+    // What follows where the closure was told that an attempt is over: nothing, where its own is still under way.
+    fn over(&self) -> Result<(), GaveUp>
+        ensures { FollowsOver self.now.attempts.caller result }
+    {
+        if self.attempts.is_under_way() {
+            return Err(GaveUp::Elsewhere);
+        }
+        Ok(())
     }
 
     // Waits until something has changed. First the attempt lets go of what it has set, so that it stands in nobody's way.

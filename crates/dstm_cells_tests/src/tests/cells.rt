@@ -17,6 +17,11 @@ fn comes_back<T: Word + PartialEq>(value: T) -> bool {
 #[test]
 fn what_is_put_is_found(rt: HostRuntime) {
     assert!(rt; comes_back(u64::MAX));
+    assert!(rt; comes_back(u32::MAX));
+    assert!(rt; comes_back(usize::MAX));
+    assert!(rt; comes_back(i64::MIN));
+    assert!(rt; comes_back(-1i64));
+    assert!(rt; comes_back(()));
     assert!(rt; comes_back((1u64, u64::MAX)));
     assert!(rt; comes_back((7u32, u32::MAX)));
     assert!(rt; comes_back(true));

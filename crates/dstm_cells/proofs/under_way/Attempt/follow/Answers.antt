@@ -4,6 +4,9 @@ use Rattle.dstm_cells.proofs.under_way.Attempt.follow.Goals as goal
 pub returns-in-Again-clause-stays : goal.returns-in-Again-clause-stays
 returns-in-Again-clause-stays g c = rw c.in-Again.is refl
 
+pub returns-in-Again-clause-follows : goal.returns-in-Again-clause-follows
+returns-in-Again-clause-follows g c = rw c.in-Again.is c.over.ensures
+
 pub returns-in-Retry-clause-stays : goal.returns-in-Retry-clause-stays
 returns-in-Retry-clause-stays g c = rw c.in-Retry.is c.wait.ensures.stays
 
