@@ -14,3 +14,4 @@ pub mod Holding
 pub mod Following
 pub mod Rising
 pub mod Totals
+pub mod Unpacking

@@ -1,5 +1,6 @@
 pub mod Answers
 pub mod Lawful
+pub mod Packed
 pub mod Parser
 pub mod Reading
 pub mod Replaying

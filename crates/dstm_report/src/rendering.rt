@@ -4,6 +4,7 @@ ghost use Rattle.std.specs.List.{flat_map};
 ghost use Rattle.dstm_report.specs.Text.{further_text, number_field, item_field, reply_text, replies_text, row_text};
 ghost use Rattle.dstm_report.specs.Text.{numbers_text, item_text, items_text, report_text};
 
+use crate::packed::PackedReport;
 use crate::report::{Report, Row};
 use dstm_model::{Item, Items, Numbers, Reply};
 use dstm_text::{push_decimal, put_decimal};
@@ -19,20 +20,49 @@ pub fn render(alloc: Global, report: &Report) -> Result<Vec<u8>, AllocError>
     // What is written are numbers of 64 bits, as their types say.
     ensures fits { IfOk result (λ _. All FitsRow report.now.rows) }
 {
-    // A row of few replies has some 30 bytes.
-    let room = report.rows.as_slice().len().saturating_mul(32);
-    let mut out = Vec::with_capacity(alloc, room)?;
-    out.extend_from_slice(b"dstm report ")?;
-    push_decimal(&mut out, u64::from(report.version))?;
-    out.push(b'\n')?;
+    let out = opened(alloc, report.version, report.rows.as_slice().len())?;
     let mut out = with_rows(out, report.rows.as_slice())?;
     push_numbers(&mut out, b"bank", &report.bank)?;
     push_numbers(&mut out, b"list", &report.list)?;
     push_items(&mut out, report.version, &report.tree)?;
-    out.extend_from_slice(b"end ")?;
-    push_decimal(&mut out, report.count)?;
+    push_count(&mut out, report.count)?;
+    Ok(out)
+}
+
+/// The text of a report whose rows are packed.
+pub fn render_packed(alloc: Global, packed: &PackedReport) -> Result<Vec<u8>, AllocError>
+    ensures text { IfOk result (λ text. text.items ≡ report_text packed.now) }
+    ensures fits { IfOk result (λ _. All FitsRow packed.now.rows) }
+{
+    let out = opened(alloc, packed.version, packed.rows.len())?;
+    let mut out = packed.rows.with_text(out)?;
+    push_numbers(&mut out, b"bank", &packed.bank)?;
+    push_numbers(&mut out, b"list", &packed.list)?;
+    push_items(&mut out, packed.version, &packed.tree)?;
+    push_count(&mut out, packed.count)?;
+    Ok(out)
+}
+
+// The first line of a text in which so many rows are to stand.
+fn opened(alloc: Global, version: u32, rows: usize) -> Result<Vec<u8>, AllocError>
+    ensures { IfOk result (λ text. text.items ≡ codes "dstm report " ++ decimal version ++ codes "\n") }
+{
+    // A row of few replies has some 30 bytes.
+    let mut out = Vec::with_capacity(alloc, rows.saturating_mul(32))?;
+    out.extend_from_slice(b"dstm report ")?;
+    push_decimal(&mut out, u64::from(version))?;
     out.push(b'\n')?;
     Ok(out)
+}
+
+// The last line.
+fn push_count(out: &mut Vec<u8>, count: u64) -> Result<(), AllocError>
+    ensures { OnOk result (out.new.items ≡ out.old.items ++ codes "end " ++ decimal count ++ codes "\n") }
+{
+    out.extend_from_slice(b"end ")?;
+    push_decimal(out, count)?;
+    out.push(b'\n')?;
+    Ok(())
 }
 
 fn push_field(out: &mut Vec<u8>, number: u64) -> Result<(), AllocError>
@@ -50,14 +80,21 @@ fn with_rows(out: Vec<u8>, rows: &[Row]) -> Result<Vec<u8>, AllocError>
     let mut out = out;
     for row in rows {
         out = with_room(out)?;
-        put_row(&mut out, row);
+        put_row(
+            &mut out,
+            row.line,
+            row.worker,
+            row.round,
+            row.number,
+            row.replies.as_slice(),
+        );
     }
     Ok(out)
 }
 
 // The same text with room for a row behind it.
 #[inline(always)]
-fn with_room(out: Vec<u8>) -> Result<Vec<u8>, AllocError>
+pub(crate) fn with_room(out: Vec<u8>) -> Result<Vec<u8>, AllocError>
     ensures items { IfOk result (λ text. text.items ≡ out.items) }
     ensures room { IfOk result (λ text. vec_len text + 300 ≤ vec_capacity text) }
 {
@@ -78,21 +115,42 @@ fn enlarged(out: Vec<u8>) -> Result<Vec<u8>, AllocError>
     Ok(out)
 }
 
+// A row behind a text.
 #[inline(always)]
-fn put_row(out: &mut Vec<u8>, row: &Row)
+pub(crate) fn put_row(
+    out: &mut Vec<u8>,
+    line: u64,
+    worker: u32,
+    round: u64,
+    number: u64,
+    replies: &[Reply],
+)
     requires room { vec_len out.old + 300 ≤ vec_capacity out.old }
-    ensures text { out.new.items ≡ out.old.items ++ row_text row.now }
-    ensures fits { FitsRow row.now }
+    requires short { length replies.now ≤ 8 }
+    ensures text { out.new.items ≡ out.old.items ++ row_text (record {
+      line = line;
+      worker = worker;
+      round = round;
+      number = number;
+      replies = replies.now;
+    }) }
+    ensures fits { FitsRow (record {
+      line = line;
+      worker = worker;
+      round = round;
+      number = number;
+      replies = replies.now;
+    }) }
 {
-    put_decimal(out, row.line);
+    put_decimal(out, line);
     out.push_reserved(b' ');
-    put_decimal(out, u64::from(row.worker));
+    put_decimal(out, u64::from(worker));
     out.push_reserved(b' ');
-    put_decimal(out, row.round);
+    put_decimal(out, round);
     out.push_reserved(b'.');
-    put_decimal(out, row.number);
+    put_decimal(out, number);
     out.push_reserved(b' ');
-    put_replies(out, row.replies.as_slice());
+    put_replies(out, replies);
     out.push_reserved(b'\n');
 }
 

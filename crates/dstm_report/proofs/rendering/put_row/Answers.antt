@@ -1,5 +1,4 @@
 use Rattle.std.proofs.Common.{◌≡◌, ◌++◌, [], ◌∷◌, List, ℕ, append_assoc, ap, decimal, refl, ◌∙◌}
-use Rattle.dstm_report.specs.Text.{replies_text}
 use Rattle.dstm_report.proofs.rendering.put_row.Goals as goal
 
 -- a text behind a text that was put behind another
@@ -30,9 +29,8 @@ parts s a b c d e f g h i j line worker round number replies ea eb ec ed ee ef e
 pub returns-clause-text : goal.returns-clause-text
 returns-clause-text c =
     let worker = ap decimal c.from.ensures in
-    let replies = ap replies_text c.as_slice.ensures.value in
     parts c.args.out.now.items _ _ _ _ _ _ _ _ _ _ _ _ _ _ _ c.put_decimal.ensures.items c.push_reserved.ensures.items
     (c.put_decimal-2.ensures.items ∙ ap (λ (l : List ℕ). c.push_reserved.new.self.items ++ l) worker)
     c.push_reserved-2.ensures.items c.put_decimal-3.ensures.items c.push_reserved-3.ensures.items
-    c.put_decimal-4.ensures.items c.push_reserved-4.ensures.items (c.put_replies.ensures.text ∙ ap (λ (l : List ℕ). c.push_reserved-4.new.self.items ++ l) replies)
+    c.put_decimal-4.ensures.items c.push_reserved-4.ensures.items c.put_replies.ensures.text
     c.push_reserved-5.ensures.items
