@@ -19,10 +19,10 @@ use crate::heap::keep_freed_memory;
 use crate::input::{CHECK_LIMIT, RUN_LIMIT, read_case, read_input};
 use dstm_command::{Command, GenSpec};
 use dstm_core::Manager;
-use dstm_crew::{Engine, Gate, Options, Rounds, run_crew};
+use dstm_crew::{Engine, Gate, Options, Rounds, run_crew, run_crew_packed};
 use dstm_gen::generate;
 use dstm_io::Source;
-use dstm_report::{Report, Verdict, balances_stay, check, lawful_is_held, render};
+use dstm_report::{Report, Verdict, balances_stay, check, lawful_is_held, render_packed};
 use dstm_text::push_decimal;
 use dstm_workload::{Workload, read_workload, write_workload};
 use std::alloc::{AllocError, Global};
@@ -120,9 +120,9 @@ fn run_text<R: Threads + Sync, G: Gate + Sync>(
 {
     let workload = read_workload(alloc, &input)?;
     drop(input);
-    let report = run_crew(rt, alloc, &workload, options, gate, rounds)?;
+    let report = run_crew_packed(rt, alloc, &workload, options, gate, rounds)?;
     lawful_is_held();
-    Ok(render(alloc, &report)?)
+    Ok(render_packed(alloc, &report)?)
 }
 
 // The verdict on the report that a source holds behind its workload.

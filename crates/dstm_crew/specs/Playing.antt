@@ -14,7 +14,7 @@ use Rattle.dstm_crew.specs.declared.progress.Progress.{Progress}
 pub record CanPlay (workload : Workload) (number : ℕ) (progress : Progress) : Type 0 where
   pub begins : Begins workload number progress.rows.items progress.values.items
   pub turns : progress.turns ≡ turns_behind workload progress.rows.items
-  pub room : vec_len progress.rows + length progress.turns.left ≤ vec_capacity progress.rows
+  pub room : length progress.rows.items + length progress.turns.left ≤ progress.rows.room
   pub room_for_record : vec_len progress.rounds < vec_capacity progress.rounds
 
 -- a round was played: its rows and its record stand behind the others, and it has left values

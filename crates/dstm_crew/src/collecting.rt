@@ -1,13 +1,13 @@
-ghost use Rattle.std.specs.Prelude.{◌≡◌, ◌<◌, ◌≤◌, ◌+◌, ◌++◌, ◌∷◌, [], List, length, vec_len, vec_capacity, IfNone, IfSome, Some, replicate, slice_index, ℕ};
+ghost use Rattle.std.specs.Prelude.{◌≡◌, ◌<◌, ◌≤◌, ◌+◌, ◌++◌, ◌∷◌, [], List, length, IfNone, IfSome, Some, replicate, slice_index, ℕ};
 ghost use Rattle.std.specs.Bool.{OnTrue};
 ghost use Rattle.dstm_jobs.specs.Tables.{Round};
 ghost use Rattle.dstm_options.specs.declared.options.Options.{Options as Choices};
+ghost use Rattle.dstm_report.specs.declared.report.Row.{Row};
 ghost use Rattle.dstm_report.specs.Turns.{job_at};
 ghost use Rattle.dstm_crew.specs.Collecting.{AreRunBy, AreSpent, CanCollect, HasCollected, IsAhead, IsFirst, IsFit, IsLeast, IsRowOf, heads, lesser_of, number_at, number_in};
 
 use crate::share::Share;
-use dstm_model::{Replies, Reply};
-use dstm_report::{Row, Turns};
+use dstm_report::{PackedRows, Turns};
 use dstm_workload::Workload;
 
 // The place of the number that comes next, and what none of the numbers at other places is below.
@@ -27,13 +27,13 @@ pub(crate) fn collect(
     next: Vec<usize>,
     numbers: Vec<Option<u64>>,
     turns: &mut Turns<'_>,
-    rows: &mut Vec<Row>,
+    rows: &mut PackedRows,
 )
     requires can { CanCollect workload.now shares.now rows.old.items turns.old }
-    requires room { vec_len rows.old + length turns.old.left ≤ vec_capacity rows.old }
+    requires room { length rows.old.items + length turns.old.left ≤ rows.old.room }
     requires next { next.items ≡ replicate (length shares.now) 0 }
     requires numbers { length numbers.items ≡ length shares.now }
-    ensures room { vec_len rows.new + length turns.new.left ≤ vec_capacity rows.new }
+    ensures room { length rows.new.items + length turns.new.left ≤ rows.new.room }
     ensures collected { (options : Choices) (r : Round) (callers : List ℕ) →
         AreRunBy workload.now options r shares.now callers →
         HasCollected workload.now options round r shares.now callers rows.old.items rows.new.items turns.new }
@@ -144,26 +144,16 @@ fn number_of(share: &Share, place: usize) -> Option<u64>
 }
 
 // Adds the row of what stands at a place of what was done.
-fn push_row(workload: &Workload, round: u64, share: &Share, place: usize, rows: &mut Vec<Row>)
+fn push_row(workload: &Workload, round: u64, share: &Share, place: usize, rows: &mut PackedRows)
     requires done { place < length share.now.done.items }
     requires fit { IsFit workload.now share.now }
-    requires room { vec_len rows.old < vec_capacity rows.old }
+    requires room { length rows.old.items < rows.old.room }
     ensures row { (row : Row) × ((rows.new.items ≡ rows.old.items ++ row ∷ []) × IsRowOf workload.now round share.now place row) }
-    ensures len { vec_len rows.new ≡ vec_len rows.old + 1 }
-    ensures capacity { vec_capacity rows.new ≡ vec_capacity rows.old }
+    ensures room { rows.new.room ≡ rows.old.room }
 {
     let line = line_at(workload, share, place);
     let number = number_done(share, place);
-    let last = rows.len();
-    rows.push_reserved(blank_row());
-    fill(
-        &mut rows[last],
-        line,
-        share.worker,
-        round,
-        number,
-        share.done.replies(place),
-    );
+    rows.push(line, share.worker, round, number, share.done.replies(place));
 }
 
 // The line of the job that was done at a place.
@@ -181,32 +171,4 @@ fn number_done(share: &Share, place: usize) -> u64
     ensures { Some result ≡ number_at share.now place }
 {
     share.done.number(place).unwrap()
-}
-
-// A row that tells nothing.
-fn blank_row() -> Row
-    ensures { result.replies ≡ [] }
-{
-    Row {
-        line: 0,
-        worker: 0,
-        round: 0,
-        number: 0,
-        replies: Replies::new(),
-    }
-}
-
-// Fills a blank row, where it stands.
-fn fill(row: &mut Row, line: u64, worker: u32, round: u64, number: u64, replies: &[Reply])
-    requires none { row.old.replies ≡ [] }
-    requires short { length replies.now ≤ 8 }
-    ensures { row.new ≡ record { line = line; worker = worker; round = round; number = number; replies = replies.now } }
-{
-    row.line = line;
-    row.worker = worker;
-    row.round = round;
-    row.number = number;
-    for reply in replies {
-        row.replies.push(*reply);
-    }
 }

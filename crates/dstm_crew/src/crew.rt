@@ -14,7 +14,7 @@ use dstm_jobs::Zeros;
 use dstm_model::Val;
 use dstm_options::Options;
 use dstm_records::Rounds;
-use dstm_report::{Report, Row, Rows, Turns};
+use dstm_report::{PackedReport, PackedRows, Report, Turns};
 use dstm_store::{opening, read_state};
 use dstm_workload::Workload;
 use std::alloc::{AllocError, Global};
@@ -32,6 +32,26 @@ pub fn run_crew<R: Threads + Sync, G: Gate + Sync>(
     gate: &G,
     rounds: &mut Rounds,
 ) -> Result<Report, AllocError>
+    requires { IsValidWorkload workload.now }
+    ensures lawful { IfOk result (IsLawful workload.now) }
+    ensures behind { rounds.new ≡ rounds.old ++ added rounds.old rounds.new }
+    ensures stand { IfOk result (StandFor workload.now options.now (added rounds.old rounds.new)) }
+    ensures closed { All (IsClosed workload.now.layout) (added rounds.old rounds.new) }
+    ensures first { AreFirstRounds workload.now options.now (added rounds.old rounds.new) }
+{
+    let report = run_crew_packed(rt, alloc, workload, options, gate, rounds)?;
+    report.unpack(alloc)
+}
+
+/// The same, with the rows of the report packed.
+pub fn run_crew_packed<R: Threads + Sync, G: Gate + Sync>(
+    rt: &R,
+    alloc: Global,
+    workload: &Workload,
+    options: &Options,
+    gate: &G,
+    rounds: &mut Rounds,
+) -> Result<PackedReport, AllocError>
     requires { IsValidWorkload workload.now }
     ensures lawful { IfOk result (IsLawful workload.now) }
     ensures behind { rounds.new ≡ rounds.old ++ added rounds.old rounds.new }
@@ -81,7 +101,7 @@ fn begin<'a>(
     Ok(Progress {
         values,
         turns,
-        rows: Vec::new(alloc),
+        rows: PackedRows::new(alloc),
         rounds,
         zeros: Zeros::new(alloc),
     })
@@ -91,9 +111,9 @@ fn begin<'a>(
 fn report_of(
     alloc: Global,
     workload: &Workload,
-    rows: Vec<Row>,
+    rows: PackedRows,
     values: &[Val],
-) -> Result<Report, AllocError>
+) -> Result<PackedReport, AllocError>
     requires valid { IsValidWorkload workload.now }
     requires good { RowsAreGood workload.now [] rows.items }
     requires whole { length rows.items ≡ length workload.now.jobs }
@@ -104,9 +124,9 @@ fn report_of(
     let layout = workload.layout;
     let state = read_state(alloc, &layout, values)?;
     let count = rows.len() as u64;
-    Ok(Report {
+    Ok(PackedReport {
         version: workload.version,
-        rows: Rows::from_vec(rows),
+        rows,
         bank: declared(layout.accounts, state.bank),
         list: declared(layout.list, state.list),
         tree: declared(layout.tree, state.tree),

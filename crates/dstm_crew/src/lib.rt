@@ -27,7 +27,7 @@ mod sweeping;
 mod trying;
 mod worker;
 
-pub use crew::run_crew;
+pub use crew::{run_crew, run_crew_packed};
 pub use done::Done;
 pub use dstm_jobs::Round;
 pub use dstm_options::{Engine, Options};

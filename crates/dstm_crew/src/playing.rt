@@ -1,4 +1,4 @@
-ghost use Rattle.std.specs.Prelude.{◌≡◌, ◌≤◌, ◌+◌, true, length, vec_len, vec_capacity, OnOk, OnErr};
+ghost use Rattle.std.specs.Prelude.{◌≡◌, ◌≤◌, ◌+◌, true, length, OnOk, OnErr};
 ghost use Rattle.dstm_records.specs.Rounds.{is_parallel};
 ghost use Rattle.dstm_crew.specs.Playing.{CanPlay, HasPlayed, WasBrokenOff};
 
@@ -24,7 +24,7 @@ pub fn play_parallel<R: Threads + Sync, G: Gate + Sync>(
     requires can { CanPlay play.now.workload.now number progress.old }
     requires parallel { is_parallel number ≡ true }
     ensures played { OnOk result (HasPlayed play.now.workload.now play.now.options.now number progress.old progress.new) }
-    ensures room { OnOk result (vec_len progress.new.rows + length progress.new.turns.left ≤ vec_capacity progress.new.rows) }
+    ensures room { OnOk result (length progress.new.rows.items + length progress.new.turns.left ≤ progress.new.rows.room) }
     ensures broken_off { OnErr result (WasBrokenOff number progress.old progress.new) }
 {
     let shares = shares_of(alloc, play.workload, number, &progress.turns)?;

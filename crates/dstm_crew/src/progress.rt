@@ -1,6 +1,6 @@
 use dstm_jobs::{Round, Zeros};
 use dstm_model::Val;
-use dstm_report::{Row, Turns};
+use dstm_report::{PackedRows, Turns};
 
 /// How far a run has come between two rounds.
 #[derive(Drop)]
@@ -10,7 +10,7 @@ pub struct Progress<'a> {
     /// Whose turn it is.
     pub turns: Turns<'a>,
     /// What was done, in order.
-    pub rows: Vec<Row>,
+    pub rows: PackedRows,
     /// The records of the rounds, behind those that were there before.
     pub rounds: Vec<Round>,
     /// Of these each round's table is made.

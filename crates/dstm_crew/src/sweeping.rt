@@ -1,4 +1,5 @@
-ghost use Rattle.std.specs.Prelude.{◌≡◌, ◌<◌, ◌≤◌, ◌+◌, ◌++◌, ◌∷◌, [], true, false, length, ℕ, List, vec_len, vec_capacity, Some, None, IfSome, IfNone};
+ghost use Rattle.std.specs.Prelude.{◌≡◌, ◌<◌, ◌≤◌, ◌+◌, ◌++◌, ◌∷◌, [], true, false, length, ℕ, List, Some, None, IfSome, IfNone};
+ghost use Rattle.dstm_report.specs.declared.report.Row.{Row};
 ghost use Rattle.dstm_report.specs.Lawful.{first_job};
 ghost use Rattle.dstm_report.specs.Turns.{without_first, Turning};
 ghost use Rattle.dstm_records.specs.Records.{KeepsReads};
@@ -10,7 +11,7 @@ use crate::play::Play;
 use crate::style::style_for;
 use dstm_jobs::{Caller, OnlyTried, Table, give_up, try_alone};
 use dstm_model::{Replies, Reply};
-use dstm_report::{Row, Turns};
+use dstm_report::{PackedRows, Turns};
 use dstm_workload::Job;
 
 // How a pass over the workers ended.
@@ -32,11 +33,11 @@ pub fn run_alone<G>(
     play: &Play<'_, G>,
     number: u64,
     turns: &mut Turns<'_>,
-    rows: &mut Vec<Row>,
+    rows: &mut PackedRows,
 )
     requires can { CanRunAlone play.now.workload.now play.now.options.now number table.now caller.old rows.old.items
         turns.old }
-    requires room { vec_len rows.old + length turns.old.left ≤ vec_capacity rows.old }
+    requires room { length rows.old.items + length turns.old.left ≤ rows.old.room }
     ensures ran { HasRunAlone play.now.workload.now play.now.options.now number caller.old caller.new rows.old.items
         rows.new.items turns.new }
     ensures keeps { KeepsReads play.now.options.now play.now.workload.now.version →
@@ -81,12 +82,12 @@ fn sweep<G>(
     play: &Play<'_, G>,
     number: u64,
     turns: &mut Turns<'_>,
-    rows: &mut Vec<Row>,
+    rows: &mut PackedRows,
 ) -> Swept
     requires may { MayStep play.now.workload.now table.now caller.old rows.old.items turns.old }
-    requires room { vec_len rows.old + length turns.old.left ≤ vec_capacity rows.old }
+    requires room { length rows.old.items + length turns.old.left ≤ rows.old.room }
     ensures may { MayStep play.now.workload.now table.now caller.new rows.new.items turns.new }
-    ensures room { vec_len rows.new + length turns.new.left ≤ vec_capacity rows.new }
+    ensures room { length rows.new.items + length turns.new.left ≤ rows.new.room }
     ensures fewer { length turns.new.left ≤ length turns.old.left }
     ensures swept { (first : Called) (before : List Row) (begun : Turning) →
         CanRunAlone play.now.workload.now play.now.options.now number table.now first before begun →
@@ -116,13 +117,13 @@ fn try_first<G>(
     number: u64,
     worker: u32,
     turns: &mut Turns<'_>,
-    rows: &mut Vec<Row>,
+    rows: &mut PackedRows,
 ) -> Swept
     requires worker { worker < play.now.workload.now.workers }
     requires may { MayStep play.now.workload.now table.now caller.old rows.old.items turns.old }
-    requires room { vec_len rows.old + length turns.old.left ≤ vec_capacity rows.old }
+    requires room { length rows.old.items + length turns.old.left ≤ rows.old.room }
     ensures may { MayStep play.now.workload.now table.now caller.new rows.new.items turns.new }
-    ensures room { vec_len rows.new + length turns.new.left ≤ vec_capacity rows.new }
+    ensures room { length rows.new.items + length turns.new.left ≤ rows.new.room }
     ensures fewer { length turns.new.left ≤ length turns.old.left }
     ensures stepped { HasStepped play.now.workload.now play.now.options.now number table.now caller.old caller.new
         rows.old.items rows.new.items turns.old turns.new worker (worker + 1) result }
@@ -146,14 +147,14 @@ fn try_first<G>(
 // The row of a worker's first job left, whose turn ends.
 fn push_row(
     turns: &mut Turns<'_>,
-    rows: &mut Vec<Row>,
+    rows: &mut PackedRows,
     round: u64,
     job: &Job,
     number: u64,
     replies: Replies,
 )
     requires turn { first_job job.now.worker turns.old.left ≡ Some job.now }
-    requires room { vec_len rows.old < vec_capacity rows.old }
+    requires room { length rows.old.items < rows.old.room }
     ensures rows { rows.new.items ≡ rows.old.items ++ record {
       line = job.now.line;
       worker = job.now.worker;
@@ -161,16 +162,9 @@ fn push_row(
       number = number;
       replies = replies;
     } ∷ [] }
-    ensures len { vec_len rows.new ≡ vec_len rows.old + 1 }
-    ensures capacity { vec_capacity rows.new ≡ vec_capacity rows.old }
+    ensures room { rows.new.room ≡ rows.old.room }
     ensures turns { turns.new ≡ record turns.old { left = without_first job.now.worker turns.old.left } }
 {
-    rows.push_reserved(Row {
-        line: job.line,
-        worker: job.worker,
-        round,
-        number,
-        replies,
-    });
+    rows.push(job.line, job.worker, round, number, replies.as_slice());
     turns.pass(job.worker);
 }

@@ -1,9 +1,9 @@
-use Rattle.std.proofs.Common.{◌∙◌, ◌+◌, List, Option, ℕ, length, IsSome, set, sym, ap, subst, arith, rules}
+use Rattle.std.proofs.Common.{◌≡◌, ◌∙◌, ◌+◌, ◌∷◌, [], List, Option, ℕ, length, IsSome, set, sym, ap, subst, arith, rules}
 use Rattle.dstm_crew.specs.Collecting.{IsAhead, heads}
 use Rattle.dstm_crew.proofs.Least.{ahead_first, ahead_set, heads_length, heads_set}
 use Rattle.dstm_workload.specs.declared.workload.Job.{Job}
 use Rattle.dstm_report.specs.Turns.{Turning}
-use Rattle.std.proofs.lemmas.List.{length-replicate, length-set}
+use Rattle.std.proofs.lemmas.List.{length-append, length-replicate, length-set}
 use Rattle.dstm_report.proofs.Rising.{length-without_first}
 use Rattle.dstm_crew.proofs.Merged.{Turn, collects_first, collects_last, collects_more, its_turn}
 use Rattle.dstm_crew.proofs.collecting.collect.Goals.{After-push_row-arg-1}
@@ -74,11 +74,12 @@ loop-lead-preserved c =
     let one = length-without_first c.index-shares-least.result.worker c.loop-lead.turns.left t.job t.first in
     let fewer = ap (λ (turns : Turning). length turns.left) c.pass.ensures in
     let room = c.loop-lead.invariant.1 in
-    let len = c.push_row.ensures.len in
-    let cap = c.push_row.ensures.capacity in (
+    let len : length c.push_row.new.rows.items ≡ length c.loop-lead.rows.items + 1 =
+    ap length c.push_row.ensures.row.1.0 ∙ length-append c.loop-lead.rows.items (c.push_row.ensures.row.0 ∷ []) in
+    let room_then = c.push_row.ensures.room in (
       collects_more c.loop-lead.invariant.0 (c.deref-in-loop-lead.ensures.value ∙ c.loop-lead.invariant.2) c.in-Some.ensures.some t c.push_row.ensures.row.1.0
           c.push_row.ensures.row.1.1 c.pass.ensures,
-      omega (arith, one, fewer, room, len, cap),
+      omega (arith, one, fewer, room, len, room_then),
       ap (λ (xs : List (Option ℕ)). set xs c.in-Some.lead.place c.number_of.result) c.loop-lead.invariant.2
           ∙ ap (λ (n : Option ℕ). set (heads c.args.shares.now c.loop-lead.next.items) c.in-Some.lead.place n) c.number_of.ensures
           ∙ sym (heads_set c.args.shares.now c.loop-lead.next.items c.in-Some.lead.place (c.index-place.result.now + 1)

@@ -1,5 +1,5 @@
 use Rattle.std.proofs.Common.{rules}
-use Rattle.dstm_crew.proofs.Least.{none_all, none_more}
+use Rattle.dstm_crew.proofs.Least.{none_all}
 use Rattle.dstm_crew.proofs.collecting.first_of.Goals as goal
 
 pub returns-in-Some-clause-first : goal.returns-in-Some-clause-first

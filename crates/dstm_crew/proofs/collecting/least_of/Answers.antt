@@ -1,4 +1,4 @@
-use Rattle.dstm_crew.proofs.Least.{bound_all, bound_first, bound_skip, bound_take, least_all, least_first, least_skip, least_take, place_within}
+use Rattle.dstm_crew.proofs.Least.{bound_all, least_all, place_within}
 use Rattle.dstm_crew.proofs.collecting.least_of.Goals as goal
 
 pub returns-clause-some : goal.returns-clause-some

@@ -1,4 +1,5 @@
 use Rattle.std.proofs.Common.{◌≡◌, ◌+◌, List, [], ◌∷◌, ◌++◌, false, length, rules, arith, refl, ap, sym, subst, ◌∙◌}
+use Rattle.std.proofs.lemmas.List.{length-append}
 use Rattle.dstm_model.specs.declared.reply.Reply.TheVariants.{Never}
 use Rattle.dstm_report.specs.declared.report.Row.{Row}
 use Rattle.dstm_report.specs.Turns.{Turning}
@@ -81,7 +82,13 @@ loop-turns-preserved g c =
     refl refl never c.push_row.ensures.turns swept in (
       subst (λ (rs : List Row). MayStep workload c.args.table.now c.give_up.new.caller rs c.push_row.new.turns)
           (sym c.push_row.ensures.rows) may,
-      omega (arith, fewer, c.push_row.ensures.len, c.in-Blocked.ensures.room, c.push_row.ensures.capacity),
+      omega (
+        arith,
+        fewer,
+        ap length c.push_row.ensures.rows ∙ length-append rows (row ∷ []),
+        c.in-Blocked.ensures.room,
+        c.push_row.ensures.room,
+      ),
       subst (λ (rs : List Row). Sweeps workload options c.args.number c.args.caller.now c.give_up.new.caller
           c.args.rows.now.items rs c.push_row.new.turns 0 false) (sym c.push_row.ensures.rows) goes,
       λ none. c.give_up.ensures.keeps ∙ (c.sweep.ensures.keeps none ∙ c.loop-turns.invariant.3 none),

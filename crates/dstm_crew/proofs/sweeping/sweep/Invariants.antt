@@ -1,4 +1,4 @@
-use Rattle.std.specs.Prelude.{◌≡◌, ◌≤◌, ◌+◌, List, length, vec_len, vec_capacity, Bool}
+use Rattle.std.specs.Prelude.{◌≡◌, ◌≤◌, ◌+◌, List, length, Bool}
 use Rattle.dstm_jobs.specs.Tables.{Caller}
 use Rattle.dstm_tables.specs.Callers.{let_go}
 use Rattle.dstm_records.specs.Records.{KeepsReads}
@@ -11,7 +11,7 @@ use Rattle.dstm_crew.proofs.sweeping.sweep.Given as goal
 abbrev pub invariant-loop-worker : goal.invariant-loop-worker
 invariant-loop-worker g l =
     MayStep l.play.workload.now l.table l.caller l.rows.items l.turns
-    × (vec_len l.rows + length l.turns.left ≤ vec_capacity l.rows)
+    × (length l.rows.items + length l.turns.left ≤ l.rows.room)
     × (length l.turns.left ≤ length l.fn.turns.left)
     × ((first : Caller) (before : List Row) (begun : Turning) →
     CanRunAlone l.play.workload.now l.play.options.now l.number l.table first before begun →

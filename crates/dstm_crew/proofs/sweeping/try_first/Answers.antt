@@ -1,4 +1,5 @@
 use Rattle.std.proofs.Common.{◌≡◌, ◌+◌, List, [], ◌∷◌, ◌++◌, true, length, Some, rules, arith, refl, ap, sym, subst, ◌∙◌}
+use Rattle.std.proofs.lemmas.List.{length-append}
 use Rattle.dstm_report.specs.declared.report.Row.{Row}
 use Rattle.dstm_report.specs.Lawful.{first_job}
 use Rattle.dstm_report.specs.Turns.{Turning}
@@ -71,7 +72,9 @@ returns-in-Done-clause-may g c =
 pub returns-in-Done-clause-room : goal.returns-in-Done-clause-room
 returns-in-Done-clause-room g c =
     let fewer = fewer g (goal.at.returns-in-Done-clause-room g c).After-push_row in
-    omega (arith, fewer, c.push_row.ensures.len, c.requires.room, c.push_row.ensures.capacity)
+    let len = ap length c.push_row.ensures.rows
+    ∙ length-append c.args.rows.now.items (row g (goal.at.returns-in-Done-clause-room g c).In-Done ∷ []) in
+    omega (arith, fewer, len, c.requires.room, c.push_row.ensures.room)
 
 pub returns-in-Done-clause-fewer : goal.returns-in-Done-clause-fewer
 returns-in-Done-clause-fewer g c =

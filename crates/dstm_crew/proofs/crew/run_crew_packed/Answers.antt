@@ -4,7 +4,7 @@ use Rattle.dstm_records.specs.Records.{AreFirstRounds}
 use Rattle.dstm_records.specs.Running.{added}
 use Rattle.dstm_records.proofs.First.{first_closed}
 use Rattle.dstm_crew.proofs.Played.{first_rounds}
-use Rattle.dstm_crew.proofs.crew.run_crew.Goals as goal
+use Rattle.dstm_crew.proofs.crew.run_crew_packed.Goals as goal
 
 -- ---- where no round was begun
 
