@@ -41,6 +41,8 @@ THREADED = ("counter", "bank", "queue", "pool")
 LINKED = {"refused": ("-Wl,--wrap=malloc,--wrap=realloc,--wrap=free",)}
 # A command that has not ended after so many seconds never will, however slow the machine.
 LONG = 3600
+# So long at most the proof of the exports takes behind rt ci, which has proved all below them, in seconds.
+PROOF = 7200
 WARNINGS = ("-Wall", "-Wextra", "-pedantic", "-Werror")
 # What the archive may want of a program that it is linked with.
 WANTED = {"free", "malloc", "realloc", "memcpy", "memmove", "memset"}
@@ -160,11 +162,11 @@ def prove(behind_rt_ci):
     words, cwd = [tool("rt"), "lib"], f"{ROOT}/crates/dstm_c"
     try:
         with left_by_rt_ci():
-            ran = subprocess.run(words, cwd=cwd, timeout=900, stdin=subprocess.DEVNULL, capture_output=True, text=True)
+            ran = subprocess.run(words, cwd=cwd, timeout=PROOF, stdin=subprocess.DEVNULL, capture_output=True, text=True)
     except (Missing, Failed):
         raise
     except subprocess.TimeoutExpired:
-        raise Missing("end of rt lib within 15 minutes") from None
+        raise Failed(f"rt lib had not ended after {PROOF} seconds") from None
     except (Exception, SystemExit) as why:
         raise Missing(f"kit that takes what rt ci has left ({type(why).__name__}: {why})") from None
     if "logic=not-proved" not in ran.stdout and (ran.returncode or "logic=proved" not in ran.stdout):
@@ -177,6 +179,17 @@ def proved(said):
     if not last or not last[-1].startswith("logic=proved"):
         raise Failed(f"rt lib proved nothing:\n{said[-1000:]}")
     return f"{ROOT}/crates/dstm_c/out/libdstm_c.a"
+
+
+def given(file):
+    """The archive that was handed over."""
+    if not os.path.isfile(file):
+        raise Failed(f"there is no archive {file}")
+    return os.path.abspath(file)
+
+
+def nothing_to_install():
+    raise Failed("there is no libdstm.a to install")
 
 
 def kit():
@@ -436,7 +449,7 @@ def main():
     steps, made = Steps(args.quiet), {}
     os.makedirs(OUT, exist_ok=True)
     if args.archive:
-        made["exports"] = os.path.abspath(args.archive)
+        steps.step("the archive", lambda: made.update(exports=given(args.archive)))
     else:
         steps.step("the proof", lambda: made.update(exports=prove(args.behind_rt_ci)))
     if "exports" in made and steps.step("libdstm.a", lambda: archive(made["exports"])):
@@ -473,6 +486,8 @@ def main():
                 steps.step("the installation", lambda: install(args.prefix))
             if args.bench:
                 steps.step("the benchmark", bench)
+    elif args.prefix:
+        steps.step("the installation", nothing_to_install)
     print(f"{steps.passed} passed, {steps.failed} failed, {steps.skipped} skipped", flush=True)
     return 1 if steps.failed or not (steps.passed or args.behind_rt_ci) else 0
 
