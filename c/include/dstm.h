@@ -85,6 +85,7 @@ uint32_t dstmc_cell_new(dstm_memory *memory, uint64_t low, uint64_t high, uint32
 uint32_t dstmc_peek(dstm_memory *memory, uint32_t cell, uint64_t *low, uint64_t *high);
 uint32_t dstmc_thread_new(dstm_memory *memory, dstm_thread *thread);
 uint32_t dstmc_thread_free(dstm_thread *thread);
+uint32_t dstmc_turn(dstm_thread *thread, uint32_t lost);
 uint32_t dstmc_begin(dstm_thread *thread);
 uint32_t dstmc_get(dstm_thread *thread, uint32_t cell, uint64_t *low, uint64_t *high);
 uint32_t dstmc_set(dstm_thread *thread, uint32_t cell, uint64_t low, uint64_t high);
@@ -157,6 +158,12 @@ static inline dstm_code dstm_thread_free(dstm_thread *thread) { return DSTM_CALL
 
 /* TRANSACTIONS. What is read is of one moment, also in an attempt that comes to nothing. */
 
+/* Before an attempt at a transaction that was lost so often. One that was lost 8 times takes the memory's turn, until it
+   has taken effect, is given up, or looks; a long one gets through so beside short ones. AGAIN: another thread has the
+   turn; leave the processor to others, and ask again: at most 524,288 times in a row, and once for one that keeps the turn
+   for long. dstm_atomically does so before each attempt; a loop of one's own that does not neither waits for the turn of
+   others nor gets its own. CLOSED. */
+static inline dstm_code dstm_turn(dstm_thread *me, uint32_t lost) { return DSTM_CALL(me, dstmc_turn(me, lost)); }
 /* Begins a transaction, or the next attempt at one that was lost. OPEN, SPENT, CLOSED. */
 static inline dstm_code dstm_begin(dstm_thread *me) { return DSTM_CALL(me, dstmc_begin(me)); }
 /* What a cell holds. AGAIN, FOREIGN, IDLE, CLOSED: then nothing is written to low and high. */
@@ -226,27 +233,35 @@ static inline dstm_code dstm_or_else(dstm_thread *me, dstm_body first, dstm_body
     return code ? code : second(me, with);
 }
 
+/* dstm_begin, where no other thread has the turn, or this one has waited for it long enough. */
+static inline dstm_code dstm_begin_in_turn(dstm_thread *me, uint32_t lost) {
+    while (dstm_turn(me, lost) == DSTM_AGAIN) sched_yield();
+    return dstm_begin(me);
+}
 /* Makes a transaction of a body: calls it until it has taken effect. Where the body answers DSTM_RETRY, it is called
    again once something that it has read may have changed; where nothing does for so many looks, that is the answer.
-   Any other code of the body gives the transaction up, and is the answer. After each attempt that came to nothing the
-   processor is left to others, twice as often as before, at most 64 times. */
+   Any other code of the body gives the transaction up, and is the answer. After each attempt that was lost the
+   processor is left to others, twice as often as before, at most 64 times; after 8 of them it goes first (dstm_turn). */
 static inline dstm_code dstm_atomically_for(dstm_thread *me, uint32_t looks, dstm_body body, void *with) {
-    uint32_t turns = 1, turn;
-    dstm_code code = dstm_begin(me);
+    uint32_t lost = 0, yields;
+    dstm_code code = dstm_begin_in_turn(me, lost);
     while (!code) {
+        int waited;
         code = body(me, with);
         if (!code) {
             code = dstm_commit(me);
             if (!code) return code;
         }
-        if (code == DSTM_RETRY) code = dstm_wait(me, looks);
+        waited = code == DSTM_RETRY;
+        if (waited) code = dstm_wait(me, looks);
         if (code != DSTM_AGAIN) {
             dstm_abort(me);
             return code;
         }
-        if (turns < 64) turns *= 2;
-        for (turn = 0; turn < turns; turn++) sched_yield();
-        code = dstm_begin(me);
+        if (waited) lost = 0; /* something has changed, and nobody is in its way */
+        else if (lost < 8)
+            for (lost++, yields = 1u << (lost < 6 ? lost : 6); yields; yields--) sched_yield();
+        code = dstm_begin_in_turn(me, lost);
         if (code == DSTM_OPEN) { /* it is not lost: the body said so by itself */
             dstm_abort(me);
             code = dstm_begin(me);

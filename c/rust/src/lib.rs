@@ -117,6 +117,7 @@ extern "C" {
     fn dstmc_peek(memory: &mut Handle, cell: u32, low: &mut u64, high: &mut u64) -> u32;
     fn dstmc_thread_new(memory: &mut Handle, thread: &mut Handle) -> u32;
     fn dstmc_thread_free(thread: &mut Handle) -> u32;
+    fn dstmc_turn(thread: &mut Handle, lost: u32) -> u32;
     fn dstmc_begin(thread: &mut Handle) -> u32;
     fn dstmc_get(thread: &mut Handle, cell: u32, low: &mut u64, high: &mut u64) -> u32;
     fn dstmc_set(thread: &mut Handle, cell: u32, low: u64, high: u64) -> u32;
@@ -134,7 +135,10 @@ const SPENT: u32 = 2;
 const OPEN: u32 = 5;
 const FULL: u32 = 9;
 const LOOKS: u32 = 1_048_576;
-const MOST_TURNS: u32 = 64;
+// After so many lost attempts a transaction goes first, and no longer gives way.
+const MOST_LOST: u32 = 8;
+// It gives way twice as often each time, at most 64 times.
+const MOST_DOUBLINGS: u32 = 6;
 
 /// Why a call failed.
 #[derive(Clone, Copy, Debug, PartialEq, Eq)]
@@ -417,14 +421,15 @@ pub struct Thread<'m> {
 
 impl<'m> Thread<'m> {
     /// Makes a transaction: calls the closure, and again, until what it did has taken effect as a whole. On a panic
-    /// of the closure it is given up. After each attempt that came to nothing the thread gives way, twice as often as
-    /// before, at most 64 times.
+    /// of the closure it is given up. After each attempt that was lost the thread gives way, twice as often as before,
+    /// at most 64 times; after 8 of them the transaction goes first, so that a long one gets through beside short ones.
     pub fn atomically<R>(
         &mut self,
         mut f: impl FnMut(&mut Tx<'_, 'm>) -> Result<R, Stop>,
     ) -> Result<R, Error> {
-        let mut turns = 1;
+        let mut lost = 0;
         loop {
+            self.wait_for_turn(lost);
             self.begin()?;
             let mut tx = Tx { thread: self };
             match f(&mut tx) {
@@ -440,11 +445,23 @@ impl<'m> Thread<'m> {
                 Err(Stop::Retry) => {
                     tx.wait()?;
                     forget(tx);
+                    // Something has changed, and nobody is in its way.
+                    lost = 0;
+                    continue;
                 }
                 Err(Stop::Failed(error)) => return Err(error),
             }
-            turns = MOST_TURNS.min(2 * turns);
-            (0..turns).for_each(|_| give_way());
+            if lost < MOST_LOST {
+                lost += 1;
+                (0..1 << lost.min(MOST_DOUBLINGS)).for_each(|_| give_way());
+            }
+        }
+    }
+
+    // Lets a transaction that was lost often, and has the turn, go first; one that was lost so often takes it.
+    fn wait_for_turn(&mut self, lost: u32) {
+        while unsafe { dstmc_turn(&mut self.handle, lost) } == AGAIN {
+            give_way();
         }
     }
 

@@ -364,6 +364,50 @@ fn a_closure_that_says_again_is_called_again() {
 }
 
 #[test]
+fn a_long_transaction_gets_through_beside_short_ones() {
+    for engine in ENGINES {
+        let mut memory = Memory::with_engine(4, engine).unwrap();
+        let cells: Vec<Cell<u64>> = (0..500).map(|_| memory.cell(7u64).unwrap()).collect();
+        let stop = memory.cell(false).unwrap();
+        scope(|s| {
+            for chance in 1u64..4 {
+                let (mut me, cells) = (memory.thread().unwrap(), &cells);
+                s.spawn(move || {
+                    let mut chance = chance * 88_172_645_463_325_252;
+                    // One is moved from a cell to another one, so that the sum stays.
+                    for _ in 0..20_000 {
+                        chance ^= chance << 13;
+                        chance ^= chance >> 7;
+                        chance ^= chance << 17;
+                        let (from, to) = (chance as usize % 500, (chance >> 32) as usize % 500);
+                        let ended = me.atomically(|tx| {
+                            tx.update(cells[from], |n| n.wrapping_sub(1))?;
+                            tx.update(cells[to], |n| n.wrapping_add(1))?;
+                            tx.get(stop)
+                        });
+                        if ended.unwrap() {
+                            break;
+                        }
+                    }
+                });
+            }
+            let mut me = memory.thread().unwrap();
+            for _ in 0..5 {
+                let sum = me.atomically(|tx| {
+                    let mut sum = 0u64;
+                    for cell in &cells {
+                        sum = sum.wrapping_add(tx.get(*cell)?);
+                    }
+                    Ok(sum)
+                });
+                assert_eq!(sum, Ok(3_500));
+            }
+            me.atomically(|tx| tx.set(stop, true)).unwrap();
+        });
+    }
+}
+
+#[test]
 fn misuse_has_its_error() {
     assert_eq!(Memory::new(0).err(), Some(Error::Range));
     assert_eq!(Memory::new(64).err(), Some(Error::Range));
