@@ -1,5 +1,5 @@
 -- A trie stands on fewer cells than it has tips, each at a place of its own: so no trie of n places stands on n cells.
-use Rattle.std.proofs.Common.{◌≡◌, ◌∙◌, ◌⊎◌, inl, inr, ℕ, zero, suc, ◌+◌, ◌*◌, ◌/◌, ◌^◌, ◌<◌, ◌≤◌, List, [], ◌∷◌, ◌++◌, length, length-append, ap, arith, refl, subst, sym}
+use Rattle.std.proofs.Common.{◌≡◌, ◌∙◌, ◌⊎◌, inl, inr, ℕ, ◌+◌, ◌*◌, ◌/◌, ◌^◌, ◌<◌, ◌≤◌, List, [], ◌∷◌, ◌++◌, length, length-append, ap, arith, refl, subst, sym}
 use Rattle.std.specs.Prelude.{Option, Some}
 use Rattle.dstm_structures.specs.Orders.{Below, Has, Holds, Trie, fork, tip}
 use Rattle.dstm_structures.specs.Tips.{Uses}

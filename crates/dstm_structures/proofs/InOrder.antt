@@ -5,8 +5,8 @@ use Rattle.dstm_model.specs.declared.value.Val.{Val}
 use Rattle.dstm_model.specs.Map.{value_at}
 use Rattle.dstm_structures.specs.Places.{is_key}
 use Rattle.dstm_structures.specs.Maps.{at_place, item_of, key_of, keys_in, place_in, reach_of, values_in}
-use Rattle.dstm_structures.specs.Ordered.{IsEnd, IsFirst, IsFirstAbove, IsInOrder, IsLast, Looks, TellsAbove, TellsEnd, TellsInOrder, entry_at, entry_of}
-use Rattle.dstm_structures.specs.Orders.{Trie, tip, fork, Has, EndsAll, FollowsAll, Holds, IsBare, IsEdge, IsNext, IsOrdered, IsOrderedBy, forks_in, left_in, level_in, low_of, order_end, right_in, root_in, words_of}
+use Rattle.dstm_structures.specs.Ordered.{IsEnd, IsFirst, IsFirstAbove, IsInOrder, IsLast, IsLastBelow, Looks, TellsAbove, TellsBelow, TellsEnd, TellsInOrder, entry_at, entry_of}
+use Rattle.dstm_structures.specs.Orders.{Trie, tip, fork, Has, EndsAll, FollowsAll, Holds, IsBare, IsEdge, IsNext, IsOrdered, IsOrderedBy, IsPrevious, PrecedesAll, forks_in, left_in, level_in, low_of, order_end, right_in, root_in, words_of}
 use Rattle.dstm_structures.specs.Tips.{WastesNoFork}
 use Rattle.dstm_structures.specs.declared.ordered.OrderedMap.{OrderedMap}
 use Rattle.dstm_structures.proofs.Maps.{place-holds, place-kept}
@@ -163,6 +163,18 @@ module _ {V : Type 0} (found : Val → V) (map : OrderedMap V) where
           λ k more less. unhad k (λ q h. omega (arith, less, next.3 q k h more)),
         )
 
+    below-by : (key : ℕ) (place : Option ℕ) (answer : Option (ℕ × V)) → IsPrevious key place t →
+        answer ≡ entry_at found map values place → IsLastBelow found map key answer values
+    below-by key None answer before is =
+        subst (λ (a : Option (ℕ × V)). IsLastBelow found map key a values) (sym is)
+        (λ k less. unhad k (λ q h. omega (arith, less, before q k h)))
+    below-by key (Some at) answer before is =
+        subst (λ (a : Option (ℕ × V)). IsLastBelow found map key a values) (sym (seen-at at before.0 answer before.1 is)) (
+          had at before.0 before.1,
+          before.2,
+          λ k more less. unhad k (λ q h. omega (arith, more, before.3 q k h less)),
+        )
+
   -- ---- what is told
 
   -- no key is there
@@ -203,3 +215,10 @@ module _ {V : Type 0} (found : Val → V) (map : OrderedMap V) where
   tells-above key place answer before mid after e l =
       told (IsFirstAbove found map key) place answer before mid after l e.same e.bare
       (λ bare k more. bare-has before bare k) (λ t o is. above-by t before o key place answer (e.is t o) is)
+
+  pub tells-below : (key : ℕ) (place : Option ℕ) (answer : Option (ℕ × V)) (before mid after : List Val) →
+      PrecedesAll map.map.cells key place before mid → Looks found map place answer mid after →
+      TellsBelow found map key answer before after
+  tells-below key place answer before mid after e l =
+      told (IsLastBelow found map key) place answer before mid after l e.same e.bare
+      (λ bare k less. bare-has before bare k) (λ t o is. below-by t before o key place answer (e.is t o) is)

@@ -7,7 +7,7 @@ use Rattle.std.proofs.lemmas.List.Elements.{Contains-append_left, Contains-get_o
 use Rattle.std.proofs.lemmas.List.Quantifiers.{all_pairs_push}
 use Rattle.dstm_model.specs.declared.value.Val.{Val}
 use Rattle.dstm_model.specs.Map.{value_at}
-use Rattle.dstm_structures.specs.Items.{AreItems, Counts, Lists, ListsInOrder, ListsPlace, Stands, if_above, with_item}
+use Rattle.dstm_structures.specs.Items.{AreItems, AreItemsAbove, Counts, Lists, ListsAbove, ListsInOrder, ListsPlace, Stands, if_above, with_item}
 use Rattle.dstm_structures.specs.Maps.{Seeks, at_place, item_of, key_of, place_in, values_in}
 use Rattle.dstm_structures.specs.Ordered.{IsFirst, IsFirstAbove, IsInOrder, TellsAbove, TellsFirst, TellsInOrder}
 use Rattle.dstm_structures.specs.Places.{is_key}
@@ -417,3 +417,150 @@ module _ {V : Type 0} (found : Val → V) (map : OrderedMap V) where
             only = end.only;
             rising = end.rising;
           }
+
+  -- ---- the items above a key
+
+  -- of the items above a key all up to this last one are listed
+  pub record WalkedAbove (low last : ℕ) (items : List (ℕ × V)) (values : List Val) : Type 0 where
+    pub has : (key : ℕ) (value : V) → low < key → item_of found map.map values key ≡ Some value →
+        Contains items (key, value) ⊎ (last < key)
+    pub only : (key : ℕ) (value : V) → Contains items (key, value) →
+        (low < key) × (item_of found map.map values key ≡ Some value)
+    pub up_to : (key : ℕ) (value : V) → Contains items (key, value) → key ≤ last
+    pub from : low ≤ last
+    pub rising : AllPairs (λ one other. one.0 < other.0) items
+
+  abbrev pub WalkingAbove : (low last : ℕ) → List (ℕ × V) → List Val → List Val → Type 0
+  WalkingAbove low last items = TellsInOrder map (WalkedAbove low last items)
+
+  pub above-start : (low : ℕ) (values : List Val) → WalkingAbove low low [] values values
+  above-start low values = record {
+    is = λ order. record {
+      has = λ key value more is. inr more;
+      only = λ key value c. absurd (omega (arith, c.1));
+      up_to = λ key value c. absurd (omega (arith, c.1));
+      from = omega arith;
+      rising = λ i j d less within. absurd (omega (arith, within));
+    };
+    same = refl;
+  }
+
+  -- one more
+  module _ (low last : ℕ) (items : List (ℕ × V)) (entry : ℕ × V) (values : List Val)
+      (w : WalkedAbove low last items values) (above : IsFirstAbove found map last (Some entry) values) where
+    has_more : (key : ℕ) (value : V) → low < key → item_of found map.map values key ≡ Some value →
+        Contains (items ++ entry ∷ []) (key, value) ⊎ (entry.0 < key)
+    has_more key value more is = by (w.has key value more is)
+      where
+        at_entry : (key ≡ entry.0) ⊎ (key ≡ entry.0 → ⊥) → last < key →
+            Contains (items ++ entry ∷ []) (key, value) ⊎ (entry.0 < key)
+        at_entry (inl same) later =
+            let value_is : entry.1 ≡ value =
+            some_is entry.1 value (sym above.0 ∙ ap (item_of found map.map values) (sym same) ∙ is) in
+            inl (subst (λ (x : ℕ × V). Contains (items ++ entry ∷ []) x)
+            (ap (λ (v : V). (entry.0, v)) value_is ∙ ap (λ (k : ℕ). (k, value)) (sym same)) (Contains-push items entry))
+        at_entry (inr apart) later = beyond (cases_lt key entry.0)
+          where
+            beyond : (key < entry.0) ⊎ (entry.0 ≤ key) → Contains (items ++ entry ∷ []) (key, value) ⊎ (entry.0 < key)
+            beyond (inl less) = absurd (none_not value (sym (above.2 key later less) ∙ is))
+            beyond (inr high) = inr (omega (arith, high, apart))
+
+        by : Contains items (key, value) ⊎ (last < key) → Contains (items ++ entry ∷ []) (key, value) ⊎ (entry.0 < key)
+        by (inl old) = inl (Contains-append_left items (entry ∷ []) (key, value) old)
+        by (inr later) = at_entry (cases_eq key entry.0) later
+
+    only_more : (key : ℕ) (value : V) → Contains (items ++ entry ∷ []) (key, value) →
+        (low < key) × (item_of found map.map values key ≡ Some value)
+    only_more key value c = by (Contains-push_cases items entry (key, value) c)
+      where
+        by : Contains items (key, value) ⊎ (entry ≡ (key, value)) →
+            (low < key) × (item_of found map.map values key ≡ Some value)
+        by (inl old) = w.only key value old
+        by (inr new) =
+            subst (λ (x : ℕ × V). (low < x.0) × (item_of found map.map values x.0 ≡ Some x.1)) new
+            (omega (arith, w.from, above.1), above.0)
+
+    up_to_more : (key : ℕ) (value : V) → Contains (items ++ entry ∷ []) (key, value) → key ≤ entry.0
+    up_to_more key value c = by (Contains-push_cases items entry (key, value) c)
+      where
+        by : Contains items (key, value) ⊎ (entry ≡ (key, value)) → key ≤ entry.0
+        by (inl old) = omega (arith, w.up_to key value old, above.1)
+        by (inr new) = let same : entry.0 ≡ key = ap (λ (x : ℕ × V). x.0) new in omega (arith, same)
+
+    rising_more : AllPairs (λ one other. one.0 < other.0) (items ++ entry ∷ [])
+    rising_more =
+        all_pairs_push (λ one other. one.0 < other.0) items entry w.rising
+        (λ k d less.
+        let before = w.up_to (get_or items k d).0 (get_or items k d).1 (Contains-get_or items k d less) in
+        omega (arith, before, above.1))
+
+    walked_more : WalkedAbove low entry.0 (items ++ entry ∷ []) values
+    walked_more = record {
+      has = has_more;
+      only = only_more;
+      up_to = up_to_more;
+      from = omega (arith, w.from, above.1);
+      rising = rising_more;
+    }
+
+  -- what stands above was told where the walk has come to
+  told-above : (low last : ℕ) (items : List (ℕ × V)) (above : Option (ℕ × V)) (before mid after : List Val) →
+      WalkingAbove low last items before mid → TellsAbove found map last above mid after → IsInOrder map before →
+      IsFirstAbove found map last above before
+  told-above low last items above before mid after w t order =
+      subst (λ (xs : List Val). IsInOrder map xs → IsFirstAbove found map last above xs) w.same t.is order
+
+  pub above-next : (low last : ℕ) (items : List (ℕ × V)) (entry : ℕ × V) (before mid after : List Val) →
+      WalkingAbove low last items before mid → TellsAbove found map last (Some entry) mid after →
+      WalkingAbove low entry.0 (items ++ entry ∷ []) before after
+  above-next low last items entry before mid after w t = record {
+    is = λ order.
+        walked_more low last items entry before (w.is order)
+        (told-above low last items (Some entry) before mid after w t order);
+    same = t.same ∙ w.same;
+  }
+
+  -- no key is above the last one
+  pub above-none : (low last most : ℕ) (items : List (ℕ × V)) (before mid after : List Val) → length items ≤ most →
+      WalkingAbove low last items before mid → TellsAbove found map last None mid after →
+      ListsAbove found map low most items before after
+  above-none low last most items before mid after few w t = record {
+    is = λ order. at_end (w.is order) (told-above low last items None before mid after w t order);
+    same = t.same ∙ w.same;
+  }
+    where
+      at_end : WalkedAbove low last items before → IsFirstAbove found map last None before →
+          AreItemsAbove found map low most items before
+      at_end walked none = record {
+        few = few;
+        all = λ key value more is. by key value is (walked.has key value more is);
+        only = walked.only;
+        rising = walked.rising;
+      }
+        where
+          by : (key : ℕ) (value : V) → item_of found map.map before key ≡ Some value →
+              Contains items (key, value) ⊎ (last < key) →
+              Contains items (key, value)
+              ⊎ ((length items ≡ most) × ((k : ℕ) (other : V) → Contains items (k, other) → k < key))
+          by key value is (inl c) = inl c
+          by key value is (inr later) = absurd (none_not value (sym (none key later) ∙ is))
+
+  -- so many are listed
+  pub above-full : (low last most : ℕ) (items : List (ℕ × V)) (before after : List Val) → length items ≡ most →
+      WalkingAbove low last items before after → ListsAbove found map low most items before after
+  above-full low last most items before after full w = record { is = λ order. at_end (w.is order); same = w.same }
+    where
+      at_end : WalkedAbove low last items before → AreItemsAbove found map low most items before
+      at_end walked = record {
+        few = omega (arith, full);
+        all = λ key value more is. by key value (walked.has key value more is);
+        only = walked.only;
+        rising = walked.rising;
+      }
+        where
+          by : (key : ℕ) (value : V) → Contains items (key, value) ⊎ (last < key) →
+              Contains items (key, value)
+              ⊎ ((length items ≡ most) × ((k : ℕ) (other : V) → Contains items (k, other) → k < key))
+          by key value (inl c) = inl c
+          by key value (inr later) =
+              inr (full, λ k other c. let before = walked.up_to k other c in omega (arith, before, later))

@@ -16,6 +16,7 @@ pub mod Laws
 pub mod Ordering
 pub mod Orders
 pub mod Places
+pub mod Pools
 pub mod Placing
 pub mod Powers
 pub mod Queues

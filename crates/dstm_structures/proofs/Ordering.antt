@@ -4,13 +4,13 @@ use Rattle.std.specs.Prelude.{Option, None, Some}
 use Rattle.dstm_model.specs.declared.value.Val.{Val}
 use Rattle.dstm_model.specs.Map.{value_at}
 use Rattle.dstm_structures.specs.Maps.{key_of, keys_in}
-use Rattle.dstm_structures.specs.Orders.{Trie, tip, fork, Below, Ends, Finds, FindsAll, Follows, HoldsIn, IsEdge, IsNext, forks_in, is_above, left_in, level_in, link_in, link_to, low_of, right_in, root_in}
+use Rattle.dstm_structures.specs.Orders.{Trie, tip, fork, Below, Ends, Finds, FindsAll, Follows, HoldsIn, IsEdge, IsNext, IsPrevious, Precedes, forks_in, is_above, is_below, left_in, level_in, link_in, link_to, low_of, right_in, root_in}
 use Rattle.dstm_structures.specs.Tips.{TellsFork}
 use Rattle.dstm_structures.specs.declared.cells.Rows.{Rows}
 use Rattle.dstm_structures.specs.declared.order.Link.{Link}
 use Rattle.dstm_structures.specs.declared.order.Link.TheVariants.{Nothing, Tip, Fork}
 use Rattle.dstm_structures.proofs.Doing.{Reads}
-use Rattle.dstm_structures.proofs.Orders.{edge-left, edge-right, fork-not-nothing, fork-same, leads, leads-to, next-all, next-later, next-left, next-none, next-right, tip-not-fork, tip-not-nothing, tip-same}
+use Rattle.dstm_structures.proofs.Orders.{edge-left, edge-right, fork-not-nothing, fork-same, leads, leads-to, next-all, next-later, next-left, next-none, next-right, previous-all, previous-earlier, previous-left, previous-none, previous-right, tip-not-fork, tip-not-nothing, tip-same}
 
 module _ (cells : Rows) where
   abbrev n : ℕ
@@ -179,6 +179,45 @@ module _ (cells : Rows) where
           (e.is (2 * prefix) l left_is (held-same before mid l same l_held) b.2)
           (g.is (2 * prefix + 1) r right_is (held-same before near r (e.same ∙ same) r_held) b.3))
 
+    -- ---- the search for the greatest key below another one
+
+    module _ (key part : ℕ) (part_is : part ≡ key / 2 ^ level) (before mid : List Val)
+        (f : TellsFork at level prefix left right (forks_in first n before)) (same : mid ≡ before) where
+      pub precedes-all : (answer : Option ℕ) (after : List Val) → prefix < part / 2 →
+          Ends cells true right level answer mid after → Precedes cells key link under answer before after
+      precedes-all answer after more e =
+          fork-finds (IsPrevious key) answer before after f (e.same ∙ same)
+          (λ bits l r b left_is right_is l_held r_held. previous-all under bits at level prefix l r b key part part_is answer
+          more (e.is (2 * prefix + 1) r right_is (held-same before mid r same r_held) b.3))
+
+      pub precedes-none : part / 2 < prefix → Precedes cells key link under None before mid
+      precedes-none less =
+          fork-finds (IsPrevious key) None before mid f same
+          (λ bits l r b left_is right_is l_held r_held. previous-none under bits at level prefix l r b key part part_is less)
+
+      pub precedes-left : (answer : Option ℕ) (after : List Val) → part ≡ 2 * prefix →
+          Precedes cells key left level answer mid after → Precedes cells key link under answer before after
+      precedes-left answer after is e =
+          fork-finds (IsPrevious key) answer before after f (e.same ∙ same)
+          (λ bits l r b left_is right_is l_held r_held. previous-left under bits at level prefix l r b key part part_is answer
+          is (e.is (2 * prefix) l left_is (held-same before mid l same l_held) b.2))
+
+      pub precedes-right : (found : ℕ) (after : List Val) → part ≡ 2 * prefix + 1 →
+          Precedes cells key right level (Some found) mid after → Precedes cells key link under (Some found) before after
+      precedes-right found after is e =
+          fork-finds (IsPrevious key) (Some found) before after f (e.same ∙ same)
+          (λ bits l r b left_is right_is l_held r_held. previous-right under bits at level prefix l r b key part part_is found
+          is (e.is (2 * prefix + 1) r right_is (held-same before mid r same r_held) b.3))
+
+      pub precedes-earlier : (answer : Option ℕ) (near after : List Val) → part ≡ 2 * prefix + 1 →
+          Precedes cells key right level None mid near → Ends cells true left level answer near after →
+          Precedes cells key link under answer before after
+      precedes-earlier answer near after is e g =
+          fork-finds (IsPrevious key) answer before after f (g.same ∙ e.same ∙ same)
+          (λ bits l r b left_is right_is l_held r_held. previous-earlier under bits at level prefix l r b key part part_is
+          answer is (e.is (2 * prefix + 1) r right_is (held-same before mid r same r_held) b.3)
+          (g.is (2 * prefix) l left_is (held-same before near l (e.same ∙ same) l_held) b.2))
+
   module _ (key link under at o : ℕ) (held : Option ℕ) (before after : List Val) (to : Tip at ≡ link_in n link)
       (o_is : o ≡ first + 2 * at) (reads : Reads key_of o held before after) where
     somewhere-tip : link ≡ 0 → ⊥
@@ -220,6 +259,29 @@ module _ (cells : Rows) where
       where
         most : (k : ℕ) → nat_lt key k ≡ false → k ≤ key
         most k e = grind (arith, e)
+
+    pub precedes-tip : is_below key held ≡ true → Precedes cells key link under (Some at) before after
+    precedes-tip it = record {
+      is = λ bits t link_is holds below.
+          let (k, is, held_is) = tip-is t link_is holds in
+          let less : k < key = ltb-true k key (sym (ap (is_below key) held_is) ∙ it) in
+          subst (IsPrevious key (Some at)) (sym is) (k, (refl, refl), less, λ a m h down. omega (arith, h.1));
+      nowhere = λ zero. absurd (somewhere-tip zero);
+      same = reads.same;
+    }
+
+    pub precedes-no-tip : is_below key held ≡ false → Precedes cells key link under None before after
+    precedes-no-tip other = record {
+      is = λ bits t link_is holds below.
+          let (k, is, held_is) = tip-is t link_is holds in
+          let more : key ≤ k = least k (sym (ap (is_below key) held_is) ∙ other) in
+          subst (IsPrevious key None) (sym is) (λ a m h. omega (arith, h.1, more));
+      nowhere = λ zero. absurd (somewhere-tip zero);
+      same = reads.same;
+    }
+      where
+        least : (k : ℕ) → nat_lt k key ≡ false → key ≤ k
+        least k e = grind (arith, e)
 
   -- ---- the whole trie
 

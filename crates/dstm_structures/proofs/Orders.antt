@@ -1,9 +1,9 @@
--- What a trie's links lead to, and where its least and greatest keys stand, and the least one above another key.
+-- What a trie's links lead to, and where its least and greatest keys stand, and the next ones to another key.
 use Rattle.std.proofs.Common.{◌≡◌, ◌∙◌, ℕ, ◌+◌, ◌-◌, ◌*◌, ◌/◌, ◌^◌, ◌<◌, ◌≤◌, true, false, ap, arith, sym, inl, inr}
 use Rattle.std.specs.Prelude.{Option, None, Some}
 use Rattle.std.proofs.Math.Nat.{div-div-eq-div-mul, div-mul-le_self, lt-div-mul-add, mul-div_cancel, mul-le-mul_right}
 use Rattle.std.proofs.lemmas.Nat.{pow-add, pow_pos}
-use Rattle.dstm_structures.specs.Orders.{Trie, tip, fork, Has, Below, Holds, IsEdge, IsNext, link_in, link_to}
+use Rattle.dstm_structures.specs.Orders.{Trie, tip, fork, Has, Below, Holds, IsEdge, IsNext, IsPrevious, link_in, link_to}
 use Rattle.dstm_structures.specs.declared.order.Link.{Link}
 use Rattle.dstm_structures.specs.declared.order.Link.TheVariants.{Nothing, Tip, Fork}
 
@@ -157,3 +157,53 @@ module _ (under bits p j q : ℕ) (l r : Trie) (b : Below under bits (fork p j q
         least : (a k : ℕ) → Has a k (fork p j q l r) → key < k → e.0 ≤ k
         least a k (inl h) above = absurd (omega (arith, above, none a k h))
         least a k (inr h) above = e.2 a k h
+
+    -- ---- the greatest key below another one
+
+    -- all keys are below
+    pub previous-all : (answer : Option ℕ) → q < part / 2 → IsEdge true answer r → IsPrevious key answer (fork p j q l r)
+    previous-all None more e = absurd e
+    previous-all (Some at) more e = (e.0, inr e.1, less-below e.0 (omega (arith, more, right-is at e.0 e.1)), greatest)
+      where
+        greatest : (a k : ℕ) → Has a k (fork p j q l r) → k < key → k ≤ e.0
+        greatest a k (inl h) below = omega (arith, apart a k at e.0 h e.1)
+        greatest a k (inr h) below = e.2 a k h
+
+    -- none is
+    pub previous-none : part / 2 < q → IsPrevious key None (fork p j q l r)
+    previous-none less a k (inl h) = omega (arith, more-above k (omega (arith, less, left-is a k h)))
+    previous-none less a k (inr h) = omega (arith, more-above k (omega (arith, less, right-is a k h)))
+
+    -- no key on the right is
+    pub previous-left : (answer : Option ℕ) → part ≡ 2 * q → IsPrevious key answer l →
+        IsPrevious key answer (fork p j q l r)
+    previous-left None is before = least
+      where
+        least : (a k : ℕ) → Has a k (fork p j q l r) → key ≤ k
+        least a k (inl h) = before a k h
+        least a k (inr h) = omega (arith, more-above k (omega (arith, is, right-is a k h)))
+    previous-left (Some at) is before = (before.0, inl before.1, before.2, greatest)
+      where
+        greatest : (a k : ℕ) → Has a k (fork p j q l r) → k < key → k ≤ before.0
+        greatest a k (inl h) below = before.3 a k h below
+        greatest a k (inr h) below = absurd (omega (arith, below, more-above k (omega (arith, is, right-is a k h))))
+
+    -- one on the right is
+    pub previous-right : (at : ℕ) → part ≡ 2 * q + 1 → IsPrevious key (Some at) r →
+        IsPrevious key (Some at) (fork p j q l r)
+    previous-right at is before = (before.0, inr before.1, before.2, greatest)
+      where
+        greatest : (a k : ℕ) → Has a k (fork p j q l r) → k < key → k ≤ before.0
+        greatest a k (inl h) below = omega (arith, apart a k at before.0 h before.1)
+        greatest a k (inr h) below = before.3 a k h below
+
+    -- none on the right is, and so the greatest on the left
+    pub previous-earlier : (answer : Option ℕ) → part ≡ 2 * q + 1 → IsPrevious key None r → IsEdge true answer l →
+        IsPrevious key answer (fork p j q l r)
+    previous-earlier None is none e = absurd e
+    previous-earlier (Some at) is none e =
+        (e.0, inl e.1, less-below e.0 (omega (arith, is, left-is at e.0 e.1)), greatest)
+      where
+        greatest : (a k : ℕ) → Has a k (fork p j q l r) → k < key → k ≤ e.0
+        greatest a k (inl h) below = e.2 a k h
+        greatest a k (inr h) below = absurd (omega (arith, below, none a k h))

@@ -1,5 +1,5 @@
 -- What putting a key into an ordered map does and taking one out, by what its steps do.
-use Rattle.std.proofs.Common.{◌≡◌, ◌∙◌, ◌++◌, ℕ, ◌+◌, ◌*◌, ◌^◌, ◌<◌, ◌≤◌, List, ap, arith, cond, length, get_or-set_other, refl, sym, subst, ◌⊎◌, inl, inr, nat_lt}
+use Rattle.std.proofs.Common.{◌≡◌, ◌∙◌, ◌++◌, ℕ, ◌+◌, ◌*◌, ◌^◌, ◌<◌, ◌≤◌, Bool, List, ap, arith, cond, length, get_or-set_other, refl, sym, subst, ◌⊎◌, inl, inr, nat_lt}
 use Rattle.std.specs.Prelude.{Option, None, Some, replicate}
 use Rattle.std.proofs.lemmas.Bool.{cases_eq}
 use Rattle.std.proofs.Math.Nat.{div-eq_of_lt}
@@ -8,7 +8,7 @@ use Rattle.dstm_model.specs.Map.{no_value, value_at}
 use Rattle.dstm_structures.specs.Places.{is_key}
 use Rattle.dstm_structures.specs.Maps.{ClearsAll, Inserts, InsertsAt, Seeks, Tells, WastesNone, at_place, item_of, key_at, key_of, keys_in, place_in, reach_in, reach_of, values_in}
 use Rattle.dstm_structures.specs.Maps as maps
-use Rattle.dstm_structures.specs.Ordered.{Adding, Adds, IsInOrder, Looks, Makes, Pops, Puts, Removes, Takes, TellsFirst, WastesNoFork, entry_at, entry_of}
+use Rattle.dstm_structures.specs.Ordered.{Adding, Adds, IsInOrder, Looks, Makes, PopsEnd, Puts, Removes, Takes, TellsEnd, WastesNoFork, entry_at, entry_of}
 use Rattle.dstm_structures.specs.Orders.{Trie, tip, Has, HoldsIn, IsBare, IsOrdered, IsOrderedBy, forks_in, low_of, order_end, root_in, words_of}
 use Rattle.dstm_structures.specs.Tips.{AddsKey, DropsKey, FreeFork, Gains, KeepsButOrder, LeavesNone, LeavesRest, Loses, NoFreeFork, Uses}
 use Rattle.dstm_structures.specs.declared.map.Placed.{Placed}
@@ -385,14 +385,14 @@ module _ {V : Type 0} (found : Val → V) (map : OrderedMap V) where
       subst (λ (xs : List Val). Adding found map key value placed xs after) s.same adding in
       told s.is
 
-  -- the first key was told, and was taken out
-  pub pops-some : (entry : ℕ × V) (removed : Option V) (before mid after : List Val) →
-      TellsFirst found map (Some entry) before mid → Removes found map entry.0 removed mid after →
-      Pops found map (Some entry) before after
-  pops-some entry None before mid after first none =
-      let same : after ≡ before = none.same ∙ first.same in
+  -- the first key was told, or the last one, and was taken out
+  pub pops-some : (greatest : Bool) (entry : ℕ × V) (removed : Option V) (before mid after : List Val) →
+      TellsEnd found map greatest (Some entry) before mid → Removes found map entry.0 removed mid after →
+      PopsEnd found map greatest (Some entry) before after
+  pops-some greatest entry None before mid after end none =
+      let same : after ≡ before = none.same ∙ end.same in
       record {
-        first = first.is;
+        end = end.is;
         is = ap (λ (v : List Val). item_of found map.map v entry.0) none.same ∙ sym none.is;
         others = λ k apart. ap (λ (v : List Val). item_of found map.map v k) same;
         around = λ o out. ap (λ (v : List Val). value_at v o) same;
@@ -400,10 +400,10 @@ module _ {V : Type 0} (found : Val → V) (map : OrderedMap V) where
         wastes = subst (λ (v : List Val). WastesNone map.map before → WastesNone map.map v) (sym same) (λ none. none);
         forks = subst (λ (v : List Val). WastesNoFork map before → WastesNoFork map v) (sym same) (λ none. none);
       }
-  pops-some entry (Some had) before mid after first done =
-      let same = first.same in
+  pops-some greatest entry (Some had) before mid after end done =
+      let same = end.same in
       record {
-        first = first.is;
+        end = end.is;
         is = done.is;
         others = λ k apart. done.others k apart ∙ ap (λ (v : List Val). item_of found map.map v k) same;
         around = λ o out. done.around o out ∙ ap (λ (v : List Val). value_at v o) same;

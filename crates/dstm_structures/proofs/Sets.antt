@@ -1,5 +1,5 @@
 -- What the calls on an ordered set do, by what those on its map do.
-use Rattle.std.proofs.Common.{◌≡◌, ◌≢◌, ◌∙◌, ℕ, ◌<◌, Bool, true, false, List, ap, arith, get_or, length, refl, sym, subst}
+use Rattle.std.proofs.Common.{◌≡◌, ◌≢◌, ◌∙◌, ◌⊎◌, ℕ, ◌<◌, ◌≤◌, Bool, true, false, List, ap, arith, get_or, inl, inr, length, refl, sym, subst}
 use Rattle.std.specs.Prelude.{AllPairs, Contains, Option, None, Some, is_some, map}
 use Rattle.std.proofs.lemmas.List.{get_or-map, length-map}
 use Rattle.std.proofs.lemmas.List.Elements.{Contains-get_or}
@@ -7,7 +7,7 @@ use Rattle.dstm_model.specs.declared.value.Val.{Val}
 use Rattle.dstm_structures.specs.Items as items
 use Rattle.dstm_structures.specs.Maps.{Seeks, at_place, item_of, place_in, values_in}
 use Rattle.dstm_structures.specs.Ordered as ordered
-use Rattle.dstm_structures.specs.Sets.{Adds, AreKeys, Counts, Inserts, IsFirst, IsFirstAbove, IsLast, Makes, Pops, Removes, TellsAbove, TellsFirst, TellsIf, TellsLast, inserted_by, key_in, present_of}
+use Rattle.dstm_structures.specs.Sets.{Adds, AreKeys, AreKeysAbove, Counts, Inserts, IsFirst, IsFirstAbove, IsLast, IsLastBelow, ListsAbove, Makes, Pops, PopsLast, Removes, TellsAbove, TellsBelow, TellsFirst, TellsIf, TellsLast, inserted_by, key_in, present_of}
 use Rattle.dstm_structures.specs.declared.map.Placed.{Placed}
 use Rattle.dstm_structures.specs.declared.map.Placed.TheVariants.{New, Instead, Full}
 use Rattle.dstm_structures.specs.declared.set.Inserted.{Inserted}
@@ -96,6 +96,11 @@ module _ (set : OrderedSet) where
   above-in low values None a = λ k more. ap is_some (a k more)
   above-in low values (Some entry) a = (ap is_some a.0, a.1, λ k more less. ap is_some (a.2 k more less))
 
+  below-in : (high : ℕ) (values : List Val) (entry : Option (ℕ × Present)) →
+      ordered.IsLastBelow present_of set.map high entry values → IsLastBelow set high (key_in entry) values
+  below-in high values None b = λ k less. ap is_some (b k less)
+  below-in high values (Some entry) b = (ap is_some b.0, b.1, λ k more less. ap is_some (b.2 k more less))
+
   pub tells-first : (entry : Option (ℕ × Present)) (answer : Option ℕ) (before after : List Val) → answer ≡ key_in entry →
       ordered.TellsFirst present_of set.map entry before after → TellsFirst set answer before after
   tells-first entry answer before after is t =
@@ -115,6 +120,13 @@ module _ (set : OrderedSet) where
       subst (λ (a : Option ℕ). TellsAbove set low a before after) (sym is)
       (record { is = λ order. above-in low before entry (t.is order); same = t.same })
 
+  pub tells-below : (high : ℕ) (entry : Option (ℕ × Present)) (answer : Option ℕ) (before after : List Val) →
+      answer ≡ key_in entry → ordered.TellsBelow present_of set.map high entry before after →
+      TellsBelow set high answer before after
+  tells-below high entry answer before after is t =
+      subst (λ (a : Option ℕ). TellsBelow set high a before after) (sym is)
+      (record { is = λ order. below-in high before entry (t.is order); same = t.same })
+
   -- the first key is taken out
   pub pops : (entry : Option (ℕ × Present)) (answer : Option ℕ) (before after : List Val) → answer ≡ key_in entry →
       ordered.Pops present_of set.map entry before after → Pops set answer before after
@@ -124,7 +136,23 @@ module _ (set : OrderedSet) where
       by : (o : Option (ℕ × Present)) → ordered.Pops present_of set.map o before after → Pops set (key_in o) before after
       by None t = record { is = λ order. first-in before None (t.is order); same = t.same }
       by (Some taken) t = record {
-        first = λ order. first-in before (Some taken) (t.first order);
+        first = λ order. first-in before (Some taken) (t.end order);
+        is = ap is_some t.is;
+        others = λ k apart. ap is_some (t.others k apart);
+        keeps = record { around = t.around; order = t.order; wastes = t.wastes; forks = t.forks };
+      }
+
+  -- the last one
+  pub pops-last : (entry : Option (ℕ × Present)) (answer : Option ℕ) (before after : List Val) → answer ≡ key_in entry →
+      ordered.PopsLast present_of set.map entry before after → PopsLast set answer before after
+  pops-last entry answer before after is p =
+      subst (λ (a : Option ℕ). PopsLast set a before after) (sym is) (by entry p)
+    where
+      by : (o : Option (ℕ × Present)) → ordered.PopsLast present_of set.map o before after →
+          PopsLast set (key_in o) before after
+      by None t = record { is = λ order. last-in before None (t.is order); same = t.same }
+      by (Some taken) t = record {
+        last = λ order. last-in before (Some taken) (t.end order);
         is = ap is_some t.is;
         others = λ k apart. ap is_some (t.others k apart);
         keeps = record { around = t.around; order = t.order; wastes = t.wastes; forks = t.forks };
@@ -193,3 +221,61 @@ module _ (set : OrderedSet) where
         only = only_keys entries values are.only;
         rising = pairs entries values (λ one other. one < other) are.rising;
       })
+
+  -- ---- the keys above another one
+
+  module _ (entries : List (ℕ × Present)) (values : List Val) where
+    -- a key that is listed has an entry, and the other way round
+    entry-of : (k : ℕ) → Contains (map key entries) k → (value : Present) × Contains entries (k, value)
+    entry-of k has =
+        let entry : ℕ × Present = get_or entries has.0 (k, record {}) in
+        let same : entry.0 ≡ k =
+        sym (get_or-map key entries has.0 (k, record {}) k (inside entries values has.0 has.1)) ∙ has.2 in (
+          entry.1,
+          subst (λ (x : ℕ). Contains entries (x, entry.1)) same
+              (Contains-get_or entries has.0 (k, record {}) (inside entries values has.0 has.1)),
+        )
+
+    listed : (k : ℕ) (value : Present) → Contains entries (k, value) → Contains (map key entries) k
+    listed k value has = (
+      has.0,
+      subst (λ (n : ℕ). has.0 < n) (sym (length-map entries key)) has.1,
+      get_or-map key entries has.0 (k, value) k has.1 ∙ ap key has.2,
+    )
+
+    above-keys : (low most : ℕ) → items.AreItemsAbove present_of set.map low most entries values →
+        AreKeysAbove set low most (map key entries) values
+    above-keys low most are = record {
+      few = subst (λ (n : ℕ). n ≤ most) (sym (length-map entries key)) are.few;
+      all = λ k more it. from k more it (item_of present_of set.map.map values k) refl;
+      only = λ k has.
+          let entry = entry-of k has in
+          let told = are.only k entry.0 entry.1 in
+          (told.0, ap is_some told.1);
+      rising = pairs entries values (λ one other. one < other) are.rising;
+    }
+      where
+        from : (k : ℕ) → low < k → is_some (item_of present_of set.map.map values k) ≡ true → (o : Option Present) →
+            item_of present_of set.map.map values k ≡ o →
+            Contains (map key entries) k
+            ⊎ ((length (map key entries) ≡ most) × ((j : ℕ) → Contains (map key entries) j → j < k))
+        from k more it None is = absurd (never (sym (ap is_some is) ∙ it))
+          where
+            never : false ≡ true → ⊥
+            never e = cc
+        from k more it (Some value) is = by (are.all k value more is)
+          where
+            by : Contains entries (k, value)
+                ⊎ ((length entries ≡ most) × ((j : ℕ) (other : Present) → Contains entries (j, other) → j < k)) →
+                Contains (map key entries) k
+                ⊎ ((length (map key entries) ≡ most) × ((j : ℕ) → Contains (map key entries) j → j < k))
+            by (inl has) = inl (listed k value has)
+            by (inr rest) =
+                inr (length-map entries key ∙ rest.0, λ j has. let entry = entry-of j has in rest.1 j entry.0 entry.1)
+
+  pub lists-above : (low most : ℕ) (entries : List (ℕ × Present)) (keys : List ℕ) (before after : List Val) →
+      keys ≡ map key entries → items.ListsAbove present_of set.map low most entries before after →
+      ListsAbove set low most keys before after
+  lists-above low most entries keys before after is t =
+      subst (λ (xs : List ℕ). ListsAbove set low most xs before after) (sym is)
+      (record { is = λ order. above-keys entries before low most (t.is order); same = t.same })

@@ -1,5 +1,5 @@
 -- What a map has altogether: its items, and how many there are.
-use Rattle.std.specs.Prelude.{◌≡◌, ◌≢◌, ℕ, ◌<◌, List, ◌++◌, ◌∷◌, [], length, if◌then◌else◌, nat_lt, AllPairs, Contains, Option, None, Some}
+use Rattle.std.specs.Prelude.{◌≡◌, ◌≢◌, ◌⊎◌, ℕ, ◌<◌, ◌≤◌, List, ◌++◌, ◌∷◌, [], length, if◌then◌else◌, nat_lt, AllPairs, Contains, Option, None, Some}
 use Rattle.dstm_model.specs.declared.value.Val.{Val}
 use Rattle.dstm_structures.specs.Maps.{item_of, place_in, values_in}
 use Rattle.dstm_structures.specs.Ordered.{TellsInOrder}
@@ -56,3 +56,18 @@ module _ {V : Type 0} (found : Val → V) (map : OrderedMap V) where
   -- THE ITEMS OF AN ORDERED MAP WERE TOLD, in the order of their keys, where its cells are in order, and nothing was set
   abbrev pub ListsInOrder : List (ℕ × V) → List Val → List Val → Type 0
   ListsInOrder items = TellsInOrder map (AreItems items)
+
+  -- these are the first items of an ordered map above a key, so many at most, in the order of their keys: all, or all up to the
+  -- last of them
+  pub record AreItemsAbove (low most : ℕ) (items : List (ℕ × V)) (values : List Val) : Type 0 where
+    pub few : length items ≤ most
+    pub all : (key : ℕ) (value : V) → low < key → item_of found map.map values key ≡ Some value →
+        Contains items (key, value)
+        ⊎ ((length items ≡ most) × ((k : ℕ) (other : V) → Contains items (k, other) → k < key))
+    pub only : (key : ℕ) (value : V) → Contains items (key, value) →
+        (low < key) × (item_of found map.map values key ≡ Some value)
+    pub rising : AllPairs (λ one other. one.0 < other.0) items
+
+  -- THEY WERE TOLD, where the cells are in order, and nothing was set
+  abbrev pub ListsAbove : (low most : ℕ) → List (ℕ × V) → List Val → List Val → Type 0
+  ListsAbove low most items = TellsInOrder map (AreItemsAbove low most items)

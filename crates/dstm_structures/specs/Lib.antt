@@ -8,6 +8,7 @@ pub mod Maps
 pub mod Ordered
 pub mod Orders
 pub mod Places
+pub mod Pools
 pub mod Queues
 pub mod Sets
 pub mod Tips

@@ -146,6 +146,12 @@ abbrev pub outcome : {V : Type 0} → Option ℕ → Placed V
 outcome None = Full
 outcome (Some at) = New
 
+-- what a key had before it was put, by the answer
+abbrev pub had_by : {V : Type 0} → Placed V → Option V
+had_by New = None
+had_by (Instead had) = Some had
+had_by Full = None
+
 -- ---- what the calls do
 
 module _ {V : Type 0} (found : Val → V) (map : HashMap V) where

@@ -111,6 +111,14 @@ module _ {V : Type 0} (found : Val → V) (map : OrderedMap V) where
       × (key < entry.0)
       × ((k : ℕ) → key < k → k < entry.0 → item_of found map.map values k ≡ None)
 
+  -- this is the last key below another one
+  abbrev pub IsLastBelow : ℕ → Option (ℕ × V) → List Val → Type 0
+  IsLastBelow key None values = (k : ℕ) → k < key → item_of found map.map values k ≡ None
+  IsLastBelow key (Some entry) values =
+      (item_of found map.map values entry.0 ≡ Some entry.1)
+      × (entry.0 < key)
+      × ((k : ℕ) → entry.0 < k → k < key → item_of found map.map values k ≡ None)
+
   -- a place was looked at, and nothing was set
   pub record Looks (place : Option ℕ) (answer : Option (ℕ × V)) (before after : List Val) : Type 0 where
     pub is : answer ≡ entry_at before place
@@ -132,9 +140,13 @@ module _ {V : Type 0} (found : Val → V) (map : OrderedMap V) where
   abbrev pub TellsAbove : ℕ → Option (ℕ × V) → List Val → List Val → Type 0
   TellsAbove key answer = TellsInOrder map (IsFirstAbove key answer)
 
-  -- THE FIRST KEY WAS TAKEN OUT, where the cells were in order
-  pub record TakesFirst (entry : ℕ × V) (before after : List Val) : Type 0 where
-    pub first : IsInOrder map before → IsFirst (Some entry) before
+  -- the last key below another one
+  abbrev pub TellsBelow : ℕ → Option (ℕ × V) → List Val → List Val → Type 0
+  TellsBelow key answer = TellsInOrder map (IsLastBelow key answer)
+
+  -- THE FIRST KEY WAS TAKEN OUT, or the last one, where the cells were in order
+  pub record TakesEnd (greatest : Bool) (entry : ℕ × V) (before after : List Val) : Type 0 where
+    pub end : IsInOrder map before → IsEnd greatest (Some entry) before
     pub is : item_of found map.map after entry.0 ≡ None
     pub others : (k : ℕ) → k ≢ entry.0 → item_of found map.map after k ≡ item_of found map.map before k
     pub around : KeepsOthers map before after
@@ -142,9 +154,23 @@ module _ {V : Type 0} (found : Val → V) (map : OrderedMap V) where
     pub wastes : WastesNone map.map before → WastesNone map.map after
     pub forks : WastesNoFork map before → WastesNoFork map after
 
+  abbrev pub PopsEnd : (greatest : Bool) → Option (ℕ × V) → List Val → List Val → Type 0
+  PopsEnd greatest None before after = TellsEnd greatest None before after
+  PopsEnd greatest (Some entry) before after = TakesEnd greatest entry before after
+
+  -- the first key
+  abbrev pub TakesFirst : ℕ × V → List Val → List Val → Type 0
+  TakesFirst = TakesEnd false
+
   abbrev pub Pops : Option (ℕ × V) → List Val → List Val → Type 0
-  Pops None before after = TellsFirst None before after
-  Pops (Some entry) before after = TakesFirst entry before after
+  Pops = PopsEnd false
+
+  -- the last key
+  abbrev pub TakesLast : ℕ × V → List Val → List Val → Type 0
+  TakesLast = TakesEnd true
+
+  abbrev pub PopsLast : Option (ℕ × V) → List Val → List Val → Type 0
+  PopsLast = PopsEnd true
 
   -- an empty map, in order, has got the objects behind those before, and each of its places and forks is free
   pub record Adds (before after : List Val) : Type 0 where

@@ -139,6 +139,16 @@ abbrev pub is_above : ℕ → Option ℕ → Bool
 is_above key None = false
 is_above key (Some held) = nat_lt key held
 
+-- the place of the greatest key below this one, if there is one
+abbrev pub IsPrevious : (key : ℕ) (answer : Option ℕ) → Trie → Type 0
+IsPrevious key None t = (p k : ℕ) → Has p k t → key ≤ k
+IsPrevious key (Some at) t = (below : ℕ) × Has at below t × (below < key) × ((p k : ℕ) → Has p k t → k < key → k ≤ below)
+
+-- a place holds a key below this one
+abbrev pub is_below : ℕ → Option ℕ → Bool
+is_below key None = false
+is_below key (Some held) = nat_lt held key
+
 abbrev pub IsEdge : (greatest : Bool) (answer : Option ℕ) → Trie → Type 0
 IsEdge greatest None t = ⊥
 IsEdge false (Some at) t = IsLeast at t
@@ -172,3 +182,10 @@ module _ (cells : Rows) where
 
   abbrev pub FollowsAll : (key : ℕ) → Option ℕ → List Val → List Val → Type 0
   FollowsAll key = FindsAll (IsNext key)
+
+  -- the place of the greatest key below this one
+  abbrev pub Precedes : (key link under : ℕ) → Option ℕ → List Val → List Val → Type 0
+  Precedes key = Finds (IsPrevious key)
+
+  abbrev pub PrecedesAll : (key : ℕ) → Option ℕ → List Val → List Val → Type 0
+  PrecedesAll key = FindsAll (IsPrevious key)

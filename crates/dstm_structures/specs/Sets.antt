@@ -1,5 +1,5 @@
 -- What the calls on an ordered set do, by what its cells hold.
-use Rattle.std.specs.Prelude.{◌≡◌, ◌≢◌, ◌⊎◌, ℕ, ◌+◌, ◌*◌, ◌<◌, Bool, true, false, List, length, AllPairs, Contains, Option, None, Some, is_some}
+use Rattle.std.specs.Prelude.{◌≡◌, ◌≢◌, ◌⊎◌, ℕ, ◌+◌, ◌*◌, ◌<◌, ◌≤◌, Bool, true, false, List, length, AllPairs, Contains, Option, None, Some, is_some}
 use Rattle.dstm_model.specs.declared.value.Val.{Val}
 use Rattle.dstm_structures.specs.Added.{AddsCells}
 use Rattle.dstm_structures.specs.Maps as maps
@@ -97,6 +97,12 @@ module _ (set : OrderedSet) where
   IsFirstAbove low (Some key) values =
       (is_in values key ≡ true) × (low < key) × ((k : ℕ) → low < k → k < key → is_in values k ≡ false)
 
+  -- this is the last key below another one
+  abbrev pub IsLastBelow : ℕ → Option ℕ → List Val → Type 0
+  IsLastBelow high None values = (k : ℕ) → k < high → is_in values k ≡ false
+  IsLastBelow high (Some key) values =
+      (is_in values key ≡ true) × (key < high) × ((k : ℕ) → key < k → k < high → is_in values k ≡ false)
+
   -- THE FIRST KEY WAS TOLD, where the cells are in order, and nothing was set
   abbrev pub TellsFirst : Option ℕ → List Val → List Val → Type 0
   TellsFirst answer = TellsInOrder set.map (IsFirst answer)
@@ -109,6 +115,10 @@ module _ (set : OrderedSet) where
   abbrev pub TellsAbove : ℕ → Option ℕ → List Val → List Val → Type 0
   TellsAbove low answer = TellsInOrder set.map (IsFirstAbove low answer)
 
+  -- the last key below another one
+  abbrev pub TellsBelow : ℕ → Option ℕ → List Val → List Val → Type 0
+  TellsBelow high answer = TellsInOrder set.map (IsLastBelow high answer)
+
   -- THE FIRST KEY WAS TAKEN OUT, where the cells were in order
   pub record TakesFirst (key : ℕ) (before after : List Val) : Type 0 where
     pub first : IsOrdered before → IsFirst (Some key) before
@@ -120,6 +130,18 @@ module _ (set : OrderedSet) where
   abbrev pub Pops : Option ℕ → List Val → List Val → Type 0
   Pops None before after = TellsFirst None before after
   Pops (Some key) before after = TakesFirst key before after
+
+  -- THE LAST KEY WAS TAKEN OUT, where the cells were in order
+  pub record TakesLast (key : ℕ) (before after : List Val) : Type 0 where
+    pub last : IsOrdered before → IsLast (Some key) before
+    pub is : is_in after key ≡ false
+    pub others : (k : ℕ) → k ≢ key → is_in after k ≡ is_in before k
+    pub keeps : KeepsWell before after
+    pub open keeps use *
+
+  abbrev pub PopsLast : Option ℕ → List Val → List Val → Type 0
+  PopsLast None before after = TellsLast None before after
+  PopsLast (Some key) before after = TakesLast key before after
 
   -- SO MANY KEYS ARE IN THE SET, and nothing was set
   pub record Counts (count : ℕ) (before after : List Val) : Type 0 where
@@ -135,6 +157,18 @@ module _ (set : OrderedSet) where
     pub all : (key : ℕ) → is_in values key ≡ true → Contains keys key
     pub only : (key : ℕ) → Contains keys key → is_in values key ≡ true
     pub rising : AllPairs (λ one other. one < other) keys
+
+  -- these are the first keys of a set above another one, so many at most, in their order: all, or all up to the last of them
+  pub record AreKeysAbove (low most : ℕ) (keys : List ℕ) (values : List Val) : Type 0 where
+    pub few : length keys ≤ most
+    pub all : (key : ℕ) → low < key → is_in values key ≡ true →
+        Contains keys key ⊎ ((length keys ≡ most) × ((k : ℕ) → Contains keys k → k < key))
+    pub only : (key : ℕ) → Contains keys key → (low < key) × (is_in values key ≡ true)
+    pub rising : AllPairs (λ one other. one < other) keys
+
+  -- THEY WERE TOLD, where the cells are in order, and nothing was set
+  abbrev pub ListsAbove : (low most : ℕ) → List ℕ → List Val → List Val → Type 0
+  ListsAbove low most keys = TellsInOrder set.map (AreKeysAbove low most keys)
 
   -- an empty set, in order, has got the objects behind those before, and each of its places and forks is free
   pub record Adds (before after : List Val) : Type 0 where

@@ -90,7 +90,7 @@ impl OrderedSet {
 }
 
 // The keys of these items.
-fn keys_of(alloc: Global, items: &[(u64, Present)]) -> Result<Vec<u64>, AllocError>
+pub(crate) fn keys_of(alloc: Global, items: &[(u64, Present)]) -> Result<Vec<u64>, AllocError>
     ensures { IfOk result (λ keys. keys.items ≡ map (λ item. item.0) items.now) }
 {
     items.iter().map(|item| item.0).collect(alloc)

@@ -24,6 +24,15 @@ pub struct Rows {
     ghost few: { first + 2 * capacity ≤ 524288 },
 }
 
+// The cells of a pool: the number of the first one, and how many there are. Behind them stands a mark for each.
+#[derive(Clone, Copy)]
+pub struct Stock {
+    pub(crate) first: u32,
+    pub(crate) capacity: u32,
+    ghost some: { 0 < capacity },
+    ghost few: { first + 2 * capacity ≤ 524288 },
+}
+
 impl Rows {
     // The cell that tells the key of a place, and how far others are looked for from it on.
     pub(crate) fn slot_at(self, at: u32) -> Cell<Slot>

@@ -2,12 +2,13 @@
 ghost use Rattle.std.specs.Prelude.{◌≡◌, ◌<◌, ◌≤◌, List, false, true, if◌then◌else◌, is_some, IfErr, IfOk, OnOk};
 ghost use Rattle.dstm_cells.specs.UnderWay.{MayBegin};
 ghost use Rattle.dstm_model.specs.declared.value.Val.{Val};
-ghost use Rattle.dstm_structures.specs.Effects.{Does, GoesOn, Stops};
-ghost use Rattle.dstm_structures.specs.Items.{Counts, Lists, ListsInOrder, Stands, if_above};
+ghost use Rattle.dstm_structures.specs.Effects.{Does, GoesOn, StillMay, Stops};
+ghost use Rattle.dstm_structures.specs.Items.{Counts, Lists, ListsAbove, ListsInOrder, Stands, if_above};
 ghost use Rattle.dstm_structures.specs.Maps.{end_of};
 ghost use Rattle.dstm_structures.specs.Orders.{order_end};
 ghost use Rattle.dstm_structures.specs.Sets as sets;
 
+use crate::between::keys_of;
 use crate::map::HashMap;
 use crate::ordered::OrderedMap;
 use crate::set::OrderedSet;
@@ -99,6 +100,34 @@ impl<V: Word> OrderedMap<V> {
         }
         Ok(items)
     }
+
+    /// The first keys above this one, so many at most, with their values, in the order of the keys. The key itself need not be
+    /// there. Who goes on where such a list ended gives its last key.
+    pub fn list_above<L: Law, S: Holds<L>>(
+        self,
+        tx: &mut Attempt<L, S>,
+        key: u64,
+        most: u32,
+        alloc: Global,
+    ) -> Result<Vec<(u64, V)>, Stop>
+        ensures goes { GoesOn L.holds tx.old tx.new }
+        ensures stops { IfErr result (λ stop. Stops (order_end self.map.cells) true tx.old tx.new stop.why) }
+        ensures lists { IfOk result (λ items. Does L.holds (order_end self.map.cells)
+            (ListsAbove V.found self key most items.items) tx.old.attempts.caller tx.new.attempts.caller) }
+        ensures may { OnOk result (StillMay L.holds tx.old.attempts.caller tx.new.attempts.caller) }
+    {
+        let mut items = Vec::new(alloc);
+        let mut last = key;
+        for _told in 0..most {
+            let above = self.next_above(tx, last)?;
+            let Some(entry) = above else {
+                return Ok(items);
+            };
+            items.push(entry)?;
+            last = entry.0;
+        }
+        Ok(items)
+    }
 }
 
 impl OrderedSet {
@@ -112,6 +141,25 @@ impl OrderedSet {
     {
         let count = self.map.len(tx)?;
         Ok(count)
+    }
+
+    /// The first keys above this one, so many at most, in their order, as `OrderedMap::list_above` tells them.
+    pub fn list_above<L: Law, S: Holds<L>>(
+        self,
+        tx: &mut Attempt<L, S>,
+        key: u64,
+        most: u32,
+        alloc: Global,
+    ) -> Result<Vec<u64>, Stop>
+        ensures goes { GoesOn L.holds tx.old tx.new }
+        ensures stops { IfErr result (λ stop. Stops (order_end self.map.map.cells) true tx.old tx.new stop.why) }
+        ensures lists { IfOk result (λ keys. Does L.holds (order_end self.map.map.cells)
+            (sets.ListsAbove self key most keys.items) tx.old.attempts.caller tx.new.attempts.caller) }
+        ensures may { OnOk result (StillMay L.holds tx.old.attempts.caller tx.new.attempts.caller) }
+    {
+        let items = self.map.list_above(tx, key, most, alloc)?;
+        let keys = keys_of(alloc, &items)?;
+        Ok(keys)
     }
 }
 

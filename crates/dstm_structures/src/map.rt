@@ -369,7 +369,7 @@ pub(crate) fn is_key(key: u64, held: Option<u64>) -> bool
 }
 
 // How a key was put that was not there, by the place into which it was put.
-fn outcome<V: Word>(place: Option<u32>) -> Placed<V>
+pub(crate) fn outcome<V: Word>(place: Option<u32>) -> Placed<V>
     ensures { result ≡ outcome place }
 {
     match place {

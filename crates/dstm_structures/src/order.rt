@@ -4,7 +4,7 @@ ghost use Rattle.std.specs.Prelude.{◌≡◌, ◌+◌, ◌*◌, ◌<◌, ◌≤
 ghost use Rattle.dstm_cells.specs.UnderWay.{MayBegin};
 ghost use Rattle.dstm_model.specs.declared.value.Val.{Val};
 ghost use Rattle.dstm_structures.specs.Effects.{Does, GoesOn, StillMay, Stops};
-ghost use Rattle.dstm_structures.specs.Orders.{Ends, EndsAll, Follows, FollowsAll, IsInside, is_above, left_in, level_in, link_in, order_end, right_in};
+ghost use Rattle.dstm_structures.specs.Orders.{Ends, EndsAll, Follows, FollowsAll, IsInside, Precedes, PrecedesAll, is_above, is_below, left_in, level_in, link_in, order_end, right_in};
 
 use crate::cells::{Rows, cell};
 use dstm_cells::{Attempt, Cell, Holds, Stop};
@@ -126,6 +126,24 @@ impl Order {
         Ok(place)
     }
 
+    // The place of the greatest key below this one.
+    pub(crate) fn previous<L: Law, S: Holds<L>>(
+        self,
+        tx: &mut Attempt<L, S>,
+        key: u64,
+    ) -> Result<Option<u32>, Stop>
+        ensures goes { GoesOn L.holds tx.old tx.new }
+        ensures stops { IfErr result (λ stop. Stops (order_end self.cells) false tx.old tx.new stop.why) }
+        ensures within { IfOk result (λ place. IfSome place (λ at. at < self.cells.capacity)) }
+        ensures precedes { IfOk result (λ place. Does L.holds (order_end self.cells) (PrecedesAll self.cells key place)
+            tx.old.attempts.caller tx.new.attempts.caller) }
+        ensures may { OnOk result ((map : List Val) × MayBegin L.holds tx.new.attempts.caller map) }
+    {
+        let root = tx.get(self.root_at())?;
+        let place = self.below(tx, root, 64, key)?;
+        Ok(place)
+    }
+
     // The place of the least key below a link, or of the greatest one. The levels below the link are below this one.
     pub(crate) fn edge<L: Law, S: Holds<L>>(
         self,
@@ -209,6 +227,59 @@ impl Order {
         }
     }
 
+    // The place of the greatest key below this one below a link. The levels below the link are below this one.
+    pub(crate) fn below<L: Law, S: Holds<L>>(
+        self,
+        tx: &mut Attempt<L, S>,
+        link: u64,
+        under: u32,
+        key: u64,
+    ) -> Result<Option<u32>, Stop>
+        requires { under ≤ 64 }
+        ensures goes { GoesOn L.holds tx.old tx.new }
+        ensures stops { IfErr result (λ stop. Stops (order_end self.cells) false tx.old tx.new stop.why) }
+        ensures within { IfOk result (λ place. IfSome place (λ at. at < self.cells.capacity)) }
+        ensures precedes { IfOk result (λ place. Does L.holds (order_end self.cells) (Precedes self.cells key link under place)
+            tx.old.attempts.caller tx.new.attempts.caller) }
+        ensures may { OnOk result (StillMay L.holds tx.old.attempts.caller tx.new.attempts.caller) }
+    {
+        match self.link(link) {
+            Link::Nothing => Ok(None),
+            Link::Tip(at) => {
+                let slot = tx.get(self.cells.slot_at(at))?;
+                if is_below(key, slot.key) {
+                    Ok(Some(at))
+                } else {
+                    Ok(None)
+                }
+            }
+            Link::Fork(at) => {
+                let fork = self.look_fork(tx, at)?;
+                if fork.level >= under {
+                    return Ok(None);
+                }
+                let part = key >> fork.level;
+                if part / 2 > fork.prefix {
+                    let last = self.edge(tx, fork.right, fork.level, true)?;
+                    return Ok(last);
+                }
+                if part / 2 < fork.prefix {
+                    return Ok(None);
+                }
+                if part % 2 == 0 {
+                    let left = self.below(tx, fork.left, fork.level, key)?;
+                    return Ok(left);
+                }
+                let right = self.below(tx, fork.right, fork.level, key)?;
+                if let Some(at) = right {
+                    return Ok(Some(at));
+                }
+                let earlier = self.edge(tx, fork.left, fork.level, true)?;
+                Ok(earlier)
+            }
+        }
+    }
+
     // Where the link of this number leads.
     pub(crate) fn link(self, number: u64) -> Link
         ensures is { result ≡ link_in self.cells.capacity number }
@@ -250,6 +321,16 @@ fn is_above(key: u64, held: Option<u64>) -> bool
 {
     match held {
         Some(held) => key < held,
+        None => false,
+    }
+}
+
+// Whether a place holds a key below this one.
+fn is_below(key: u64, held: Option<u64>) -> bool
+    ensures { result ≡ is_below key held }
+{
+    match held {
+        Some(held) => held < key,
         None => false,
     }
 }

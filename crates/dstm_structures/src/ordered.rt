@@ -1,12 +1,12 @@
 // An ordered map in the cells of a memory.
-ghost use Rattle.std.specs.Prelude.{◌≡◌, ◌⊎◌, ◌↔◌, ◌+◌, ◌*◌, ◌<◌, ◌≤◌, List, false, length, Err, IfErr, IfOk, IfSome, OnOk};
+ghost use Rattle.std.specs.Prelude.{◌≡◌, ◌⊎◌, ◌↔◌, ◌+◌, ◌*◌, ◌<◌, ◌≤◌, List, None, false, length, Err, IfErr, IfOk, IfSome, OnOk};
 ghost use Rattle.dstm_cells.specs.Cells.{WantsRoom};
 ghost use Rattle.dstm_cells.specs.UnderWay.{MayBegin};
 ghost use Rattle.dstm_cells.specs.declared.error.Failed.TheVariants as failed;
 ghost use Rattle.dstm_model.specs.declared.value.Val.{Val};
 ghost use Rattle.dstm_structures.specs.Effects.{Does, GoesOn, StillMay, Stops};
-ghost use Rattle.dstm_structures.specs.Maps.{Tells, TellsIf, end_of};
-ghost use Rattle.dstm_structures.specs.Ordered.{Adding, Adds, Looks, Pops, Puts, Removes, Takes, TellsAbove, TellsEnd, TellsFirst, TellsLast};
+ghost use Rattle.dstm_structures.specs.Maps.{Tells, TellsIf, end_of, had_by};
+ghost use Rattle.dstm_structures.specs.Ordered.{Adding, Adds, Looks, Pops, PopsEnd, PopsLast, Puts, Removes, Takes, TellsAbove, TellsBelow, TellsEnd, TellsFirst, TellsLast};
 ghost use Rattle.dstm_structures.specs.Orders.{order_end};
 
 use crate::cells::{Rows, number};
@@ -175,6 +175,26 @@ impl<V: Word> OrderedMap<V> {
         Ok(entry)
     }
 
+    /// The last key below this one with its value, if there is one. The key itself need not be there.
+    pub fn next_below<L: Law, S: Holds<L>>(
+        self,
+        tx: &mut Attempt<L, S>,
+        key: u64,
+    ) -> Result<Option<(u64, V)>, Stop>
+        ensures goes { GoesOn L.holds tx.old tx.new }
+        ensures stops { IfErr result (λ stop. Stops (order_end self.map.cells) false tx.old tx.new stop.why) }
+        ensures tells { IfOk result (λ answer. Does L.holds (order_end self.map.cells) (TellsBelow V.found self key answer)
+            tx.old.attempts.caller tx.new.attempts.caller) }
+        ensures may { OnOk result ((map : List Val) × MayBegin L.holds tx.new.attempts.caller map) }
+    {
+        let order = Order {
+            cells: self.map.cells,
+        };
+        let place = order.previous(tx, key)?;
+        let entry = self.entry(tx, place)?;
+        Ok(entry)
+    }
+
     /// Takes the first key out, and answers it with its value, if there is one.
     pub fn pop_first<L: Law, S: Holds<L>>(
         self,
@@ -186,8 +206,37 @@ impl<V: Word> OrderedMap<V> {
             tx.old.attempts.caller tx.new.attempts.caller) }
         ensures may { OnOk result ((map : List Val) × MayBegin L.holds tx.new.attempts.caller map) }
     {
-        let first = self.first(tx)?;
-        let Some(entry) = first else {
+        self.pop(tx, false)
+    }
+
+    /// Takes the last key out, and answers it with its value, if there is one.
+    pub fn pop_last<L: Law, S: Holds<L>>(
+        self,
+        tx: &mut Attempt<L, S>,
+    ) -> Result<Option<(u64, V)>, Stop>
+        ensures goes { GoesOn L.holds tx.old tx.new }
+        ensures stops { IfErr result (λ stop. Stops (order_end self.map.cells) tx.old.notes tx.old tx.new stop.why) }
+        ensures pops { IfOk result (λ popped. Does L.holds (order_end self.map.cells) (PopsLast V.found self popped)
+            tx.old.attempts.caller tx.new.attempts.caller) }
+        ensures may { OnOk result ((map : List Val) × MayBegin L.holds tx.new.attempts.caller map) }
+    {
+        self.pop(tx, true)
+    }
+
+    // Takes the first key out, or the last one, and answers it with its value, if there is one.
+    fn pop<L: Law, S: Holds<L>>(
+        self,
+        tx: &mut Attempt<L, S>,
+        greatest: bool,
+    ) -> Result<Option<(u64, V)>, Stop>
+        ensures goes { GoesOn L.holds tx.old tx.new }
+        ensures stops { IfErr result (λ stop. Stops (order_end self.map.cells) tx.old.notes tx.old tx.new stop.why) }
+        ensures pops { IfOk result (λ popped. Does L.holds (order_end self.map.cells) (PopsEnd V.found self greatest popped)
+            tx.old.attempts.caller tx.new.attempts.caller) }
+        ensures may { OnOk result ((map : List Val) × MayBegin L.holds tx.new.attempts.caller map) }
+    {
+        let end = self.end(tx, greatest)?;
+        let Some(entry) = end else {
             return Ok(None);
         };
         let _removed = self.remove(tx, entry.0)?;
@@ -223,6 +272,7 @@ impl<V: Word> OrderedMap<V> {
     ) -> Result<Placed<V>, Stop>
         ensures goes { GoesOn L.holds tx.old tx.new }
         ensures stops { IfErr result (λ stop. Stops (order_end self.map.cells) tx.old.notes tx.old tx.new stop.why) }
+        ensures absent { IfOk result (λ placed. had_by placed ≡ None) }
         ensures adds { IfOk result (λ placed. Does L.holds (order_end self.map.cells) (Adding V.found self key value placed)
             tx.old.attempts.caller tx.new.attempts.caller) }
         ensures may { OnOk result (StillMay L.holds tx.old.attempts.caller tx.new.attempts.caller) }

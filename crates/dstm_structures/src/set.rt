@@ -7,7 +7,7 @@ ghost use Rattle.dstm_model.specs.declared.value.Val.{Val};
 ghost use Rattle.dstm_structures.specs.Effects.{Does, GoesOn, Stops};
 ghost use Rattle.dstm_structures.specs.Maps.{end_of};
 ghost use Rattle.dstm_structures.specs.Orders.{order_end};
-ghost use Rattle.dstm_structures.specs.Sets.{Adds, Inserts, Pops, Removes, TellsAbove, TellsFirst, TellsIf, TellsLast, inserted_by, key_in};
+ghost use Rattle.dstm_structures.specs.Sets.{Adds, Inserts, Pops, PopsLast, Removes, TellsAbove, TellsBelow, TellsFirst, TellsIf, TellsLast, inserted_by, key_in};
 
 use crate::map::Placed;
 use crate::ordered::OrderedMap;
@@ -156,6 +156,22 @@ impl OrderedSet {
         Ok(key_in(next))
     }
 
+    /// The last key below this one, if there is one. The key itself need not be there.
+    pub fn next_below<L: Law, S: Holds<L>>(
+        self,
+        tx: &mut Attempt<L, S>,
+        key: u64,
+    ) -> Result<Option<u64>, Stop>
+        ensures goes { GoesOn L.holds tx.old tx.new }
+        ensures stops { IfErr result (λ stop. Stops (order_end self.map.map.cells) false tx.old tx.new stop.why) }
+        ensures tells { IfOk result (λ answer. Does L.holds (order_end self.map.map.cells) (TellsBelow self key answer)
+            tx.old.attempts.caller tx.new.attempts.caller) }
+        ensures may { OnOk result ((map : List Val) × MayBegin L.holds tx.new.attempts.caller map) }
+    {
+        let before = self.map.next_below(tx, key)?;
+        Ok(key_in(before))
+    }
+
     /// Takes the first key out, and answers it, if there is one.
     pub fn pop_first<L: Law, S: Holds<L>>(self, tx: &mut Attempt<L, S>) -> Result<Option<u64>, Stop>
         ensures goes { GoesOn L.holds tx.old tx.new }
@@ -165,6 +181,18 @@ impl OrderedSet {
         ensures may { OnOk result ((map : List Val) × MayBegin L.holds tx.new.attempts.caller map) }
     {
         let popped = self.map.pop_first(tx)?;
+        Ok(key_in(popped))
+    }
+
+    /// Takes the last key out, and answers it, if there is one.
+    pub fn pop_last<L: Law, S: Holds<L>>(self, tx: &mut Attempt<L, S>) -> Result<Option<u64>, Stop>
+        ensures goes { GoesOn L.holds tx.old tx.new }
+        ensures stops { IfErr result (λ stop. Stops (order_end self.map.map.cells) tx.old.notes tx.old tx.new stop.why) }
+        ensures pops { IfOk result (λ popped. Does L.holds (order_end self.map.map.cells) (PopsLast self popped)
+            tx.old.attempts.caller tx.new.attempts.caller) }
+        ensures may { OnOk result ((map : List Val) × MayBegin L.holds tx.new.attempts.caller map) }
+    {
+        let popped = self.map.pop_last(tx)?;
         Ok(key_in(popped))
     }
 }
