@@ -2,6 +2,7 @@
 mod cells;
 mod maps;
 mod plain;
+mod pools;
 mod queues;
 mod replay;
 mod runs;

@@ -1,5 +1,6 @@
 // A map, an ordered one and a set, by rows of calls, and beside the map of std. Each call is made on all in one transaction.
 use crate::tests::plain::{Change, Part, atomically, is_so, memory_by};
+use crate::tests::pools::is_a_row;
 use crate::tests::queues::{draw, is_a_deque};
 use dstm_cells::{Failed, GaveUp, Manager, Me, Memory, Stop, Tx};
 use dstm_structures::{HashMap, Inserted, OrderedMap, OrderedSet, Placed};
@@ -17,7 +18,10 @@ pub enum Call {
     First,
     Last,
     Above(u64),
+    Below(u64),
     Pop,
+    PopLast,
+    Add(u64, u64),
     Len,
 }
 
@@ -54,9 +58,17 @@ fn call_ordered(tx: &mut Tx<'_>, map: OrderedMap<u64>, call: Call) -> Result<Ans
         Call::First => Ok(Answer::Entry(map.first(tx)?)),
         Call::Last => Ok(Answer::Entry(map.last(tx)?)),
         Call::Above(key) => Ok(Answer::Entry(map.next_above(tx, key)?)),
+        Call::Below(key) => Ok(Answer::Entry(map.next_below(tx, key)?)),
         Call::Pop => Ok(Answer::Entry(map.pop_first(tx)?)),
+        Call::PopLast => Ok(Answer::Entry(map.pop_last(tx)?)),
+        Call::Add(key, more) => Ok(Answer::Placed(map.update(tx, key, |had| sum(had, more))?)),
         Call::Len => Ok(Answer::Count(map.len(tx)? as usize)),
     }
+}
+
+// What a key has that had this, once so much is added.
+fn sum(had: Option<u64>, more: u64) -> u64 {
+    had.unwrap_or(0).wrapping_add(more)
 }
 
 // The answer of the map that has no order, which keeps the keys of the other one: that one's answer to a call of the order.
@@ -71,7 +83,10 @@ fn call_hashed(
         (Call::Get(key), _) => Ok(Answer::Value(map.get(tx, key)?)),
         (Call::Contains(key), _) => Ok(Answer::There(map.contains(tx, key)?)),
         (Call::Remove(key), _) => Ok(Answer::Value(map.remove(tx, key)?)),
-        (Call::Pop, Answer::Entry(Some((key, _)))) => match map.remove(tx, key)? {
+        (Call::Add(key, more), _) => {
+            Ok(Answer::Placed(map.update(tx, key, |had| sum(had, more))?))
+        }
+        (Call::Pop | Call::PopLast, Answer::Entry(Some((key, _)))) => match map.remove(tx, key)? {
             Some(value) => Ok(Answer::Entry(Some((key, value)))),
             None => Ok(Answer::Entry(None)),
         },
@@ -83,14 +98,16 @@ fn call_hashed(
 // The answer of a set, as that of a map whose values are all 0.
 fn call_set(tx: &mut Tx<'_>, set: OrderedSet, call: Call) -> Result<Answer, Stop> {
     match call {
-        Call::Put(key, _) => Ok(placed(set.insert(tx, key)?)),
+        Call::Put(key, _) | Call::Add(key, _) => Ok(placed(set.insert(tx, key)?)),
         Call::Get(key) => Ok(value_if(set.contains(tx, key)?)),
         Call::Contains(key) => Ok(Answer::There(set.contains(tx, key)?)),
         Call::Remove(key) => Ok(value_if(set.remove(tx, key)?)),
         Call::First => Ok(entry(set.first(tx)?)),
         Call::Last => Ok(entry(set.last(tx)?)),
         Call::Above(key) => Ok(entry(set.next_above(tx, key)?)),
+        Call::Below(key) => Ok(entry(set.next_below(tx, key)?)),
         Call::Pop => Ok(entry(set.pop_first(tx)?)),
+        Call::PopLast => Ok(entry(set.pop_last(tx)?)),
         Call::Len => Ok(Answer::Count(set.len(tx)? as usize)),
     }
 }
@@ -181,8 +198,33 @@ impl Change for InOrder {
     }
 }
 
+// The first keys above one, so many at most, of an ordered map with their values and of a set.
+#[derive(Drop)]
+struct Scan {
+    maps: Maps,
+    alloc: Global,
+    key: u64,
+    most: u32,
+}
+
+impl Change for Scan {
+    type Answer = (Vec<(u64, u64)>, Vec<u64>);
+
+    fn make(&self, tx: &mut Tx<'_>) -> Result<(Vec<(u64, u64)>, Vec<u64>), Stop> {
+        let items = self
+            .maps
+            .ordered
+            .list_above(tx, self.key, self.most, self.alloc)?;
+        let keys = self
+            .maps
+            .set
+            .list_above(tx, self.key, self.most, self.alloc)?;
+        Ok((items, keys))
+    }
+}
+
 // Maps with room for three keys are filled and read by their order.
-const FILLED: [(Call, Answer); 14] = [
+const FILLED: [(Call, Answer); 17] = [
     (Call::Put(6, 60), Answer::Placed(Placed::New)),
     (Call::Put(u64::MAX, 7), Answer::Placed(Placed::New)),
     (Call::Put(5, 50), Answer::Placed(Placed::New)),
@@ -197,6 +239,9 @@ const FILLED: [(Call, Answer); 14] = [
     (Call::Above(5), Answer::Entry(Some((6, 60)))),
     (Call::Above(6), Answer::Entry(Some((u64::MAX, 7)))),
     (Call::Above(u64::MAX), Answer::Entry(None)),
+    (Call::Below(u64::MAX), Answer::Entry(Some((6, 60)))),
+    (Call::Below(6), Answer::Entry(Some((5, 51)))),
+    (Call::Below(5), Answer::Entry(None)),
 ];
 
 // One key is left in them.
@@ -362,16 +407,19 @@ fn key_of(drawn: u64) -> u64 {
 }
 
 fn call_of(drawn: u64) -> Call {
-    let key = key_of(drawn / 16);
-    match drawn % 16 {
+    let key = key_of(drawn / 20);
+    match drawn % 20 {
         0..=5 => Call::Put(key, drawn),
         6..=8 => Call::Remove(key),
         9 | 10 => Call::Above(key),
-        11 => Call::Contains(key),
-        12 => Call::First,
-        13 => Call::Last,
-        14 => Call::Pop,
-        _ if drawn / 32 % 2 == 0 => Call::Get(key),
+        11 | 12 => Call::Below(key),
+        13 => Call::Contains(key),
+        14 => Call::First,
+        15 => Call::Last,
+        16 => Call::Pop,
+        17 => Call::PopLast,
+        18 => Call::Add(key, drawn),
+        _ if drawn / 40 % 2 == 0 => Call::Get(key),
         _ => Call::Len,
     }
 }
@@ -404,22 +452,23 @@ fn first_from(plain: &BTreeMap<u64, u64>, least: u64) -> Option<(u64, u64)> {
     None
 }
 
-// The last key with its value.
-fn last_of(plain: &BTreeMap<u64, u64>) -> Option<(u64, u64)> {
+// The last key up to this one, with its value.
+fn last_up_to(plain: &BTreeMap<u64, u64>, greatest: u64) -> Option<(u64, u64)> {
     let mut last = None;
     for (key, value) in plain {
-        last = Some((*key, *value));
+        if *key <= greatest {
+            last = Some((*key, *value));
+        }
     }
     last
 }
 
-// Takes the first key out.
-fn popped(plain: &mut BTreeMap<u64, u64>) -> Option<(u64, u64)> {
-    let first = first_from(plain, 0);
-    if let Some((key, _)) = first {
+// Takes this key out, and answers it.
+fn popped(plain: &mut BTreeMap<u64, u64>, entry: Option<(u64, u64)>) -> Option<(u64, u64)> {
+    if let Some((key, _)) = entry {
         let _value = plain.remove(&key);
     }
-    first
+    entry
 }
 
 // What a map of std answers that is to have room for so many keys.
@@ -430,10 +479,23 @@ pub fn expected(plain: &mut BTreeMap<u64, u64>, call: Call, room: u32) -> Result
         Call::Contains(key) => Ok(Answer::There(plain.contains_key(&key))),
         Call::Remove(key) => Ok(Answer::Value(plain.remove(&key))),
         Call::First => Ok(Answer::Entry(first_from(plain, 0))),
-        Call::Last => Ok(Answer::Entry(last_of(plain))),
+        Call::Last => Ok(Answer::Entry(last_up_to(plain, u64::MAX))),
         Call::Above(u64::MAX) => Ok(Answer::Entry(None)),
         Call::Above(key) => Ok(Answer::Entry(first_from(plain, key + 1))),
-        Call::Pop => Ok(Answer::Entry(popped(plain))),
+        Call::Below(0) => Ok(Answer::Entry(None)),
+        Call::Below(key) => Ok(Answer::Entry(last_up_to(plain, key - 1))),
+        Call::Pop => {
+            let first = first_from(plain, 0);
+            Ok(Answer::Entry(popped(plain, first)))
+        }
+        Call::PopLast => {
+            let last = last_up_to(plain, u64::MAX);
+            Ok(Answer::Entry(popped(plain, last)))
+        }
+        Call::Add(key, more) => {
+            let value = sum(plain.get(&key).copied(), more);
+            Ok(Answer::Placed(place(plain, key, value, room)?))
+        }
         Call::Len => Ok(Answer::Count(plain.len())),
     }
 }
@@ -496,8 +558,51 @@ impl BesideStd {
         if items.sort().is_err() {
             return Err(GaveUp::Memory);
         }
-        Ok(has_items(plain, &sorted) && has_items(plain, &items))
+        Ok(
+            has_items(plain, &sorted)
+                && has_items(plain, &items)
+                && self.have_pages(me, sorted.as_slice())?,
+        )
     }
+
+    // Whether the first four keys above the second one are listed so, and all above it, of a map that has these items.
+    fn have_pages(&self, me: &mut Me<'_>, items: &[(u64, u64)]) -> Result<bool, GaveUp> {
+        let [_, second, rest @ ..] = items else {
+            return Ok(true);
+        };
+        Ok(self.is_page(me, second.0, 4, rest)? && self.is_page(me, second.0, 12, rest)?)
+    }
+
+    // Whether these are the items above a key, and as many of them are listed as are asked for.
+    fn is_page(
+        &self,
+        me: &mut Me<'_>,
+        key: u64,
+        most: u32,
+        items: &[(u64, u64)],
+    ) -> Result<bool, GaveUp> {
+        let scan = Scan {
+            maps: self.maps,
+            alloc: self.alloc,
+            key,
+            most,
+        };
+        let (listed, keys) = atomically(me, &scan)?;
+        let count = items.len().min(most as usize);
+        Ok(listed.as_slice() == &items[..count] && are_keys_of(&keys, &items[..count]))
+    }
+}
+
+// Whether these are the keys of these items.
+fn are_keys_of(keys: &[u64], items: &[(u64, u64)]) -> bool {
+    let mut rest = keys.iter();
+    for item in items {
+        match rest.next() {
+            Some(key) if *key == item.0 => {}
+            _ => return false,
+        }
+    }
+    rest.next().is_none()
 }
 
 impl Part for BesideStd {
@@ -529,15 +634,17 @@ fn are_as_std<R: Threads + Sync>(
     is_so(rt, memory, &part)
 }
 
-// Maps beside that of std, and a queue beside its deque.
+// Maps beside that of std, a queue beside its deque, and a pool beside a row.
 #[test]
 fn structures_do_what_those_of_std_do(rt: HostRuntime) -> Result<(), Fail> {
     let alloc = rt.alloc();
     assert!(rt; are_as_std(&rt, alloc, &mut memory_by(alloc, None), 2_000)?);
     assert!(rt; is_a_deque(&rt, alloc, &mut memory_by(alloc, None), 2_000)?);
+    assert!(rt; is_a_row(&rt, &mut memory_by(alloc, None), 2_000)?);
     let by = Some(Manager::Karma);
     assert!(rt; are_as_std(&rt, alloc, &mut memory_by(alloc, by), 200)?);
     assert!(rt; is_a_deque(&rt, alloc, &mut memory_by(alloc, by), 200)?);
+    assert!(rt; is_a_row(&rt, &mut memory_by(alloc, by), 200)?);
     Ok(())
 }
 
