@@ -1,15 +1,15 @@
 // What C calls.
-ghost use Rattle.std.specs.Prelude.{◌≡◌, ◌≢◌, ◌<◌, false, true, List, Err, IfErr, IfOk, MatchOption, None, Ok, OnOk, Some};
-ghost use Rattle.dstm_attempts.specs.Attempts.{AddsNothing, Begins, Exchanges, Finds, IsAbandoned, MayBegin, Opens, SetsNothing, TakesEffect};
-ghost use Rattle.dstm_handles.specs.Held.{IfMemory, IfOpened, IfPart, OfMemory, OfPart, Opened};
-ghost use Rattle.dstm_handles.specs.Memories.{Grows, HasSettled, KeepsCells};
-ghost use Rattle.dstm_handles.specs.Threads.{BeginsOr, GivesUp, Marks, StopsChange, StopsCommit, StopsLook, starting};
-ghost use Rattle.dstm_handles.specs.Undoing.{UndoesTo};
+ghost use Rattle.std.specs.Prelude.{◌≡◌, ◌≢◌, ◌⊎◌, ◌↔◌, ◌<◌, Err, MatchOption, None, Result, Some};
+ghost use Rattle.dstm_handles.specs.Held.{ByMemory, OfMemory, OfPart};
+ghost use Rattle.dstm_handles.specs.Memories.{GivesOut, MakesCell, Peeks};
+ghost use Rattle.dstm_handles.specs.Threads.{BeginsOr, Commits, Enters, Gets, GivesUp, Marks, Sets, UndoesTo};
 ghost use Rattle.dstm_handles.specs.Waiting.{Looks};
+ghost use Rattle.dstm_handles.specs.declared.code.Code.{Code};
 ghost use Rattle.dstm_handles.specs.declared.code.Code.TheVariants.{Closed, Done, Taken};
-ghost use Rattle.dstm_model.specs.Map.{value_at};
+ghost use Rattle.dstm_handles.specs.declared.code.Code.TheVariants as code;
+ghost use Rattle.dstm_handles.specs.declared.thread.Thread.{Thread};
 ghost use Rattle.dstm_model.specs.declared.value.Val.{Val};
-ghost use Rattle.dstm_c.specs.Codes.{IsNoMemory, IsNoPart, OpensMemory, OpensPart, Tells, engine_number, number_of};
+ghost use Rattle.dstm_c.specs.Codes.{FreesMemory, FreesPart, IsBoxed, IsOutOfRange, OpensMemory, OpensPart, Tells, TellsAnswer, TellsValue, code_of, engine_number, number_of};
 
 use core::mem::replace_with;
 use dstm_core::Manager;
@@ -81,6 +81,8 @@ fn open_handle(alloc: Global, handle: &mut Handle, held: Held) -> Code
     ensures opened { result ≡ Done → (handle.old.held ≡ None) × (handle.new.held ≡ Some held) }
     ensures kept { result ≢ Done → handle.new.held ≡ handle.old.held }
     ensures taken { handle.old.held ≢ None → result ≡ Taken }
+    ensures was_closed { result ≡ Taken → handle.old.held ≢ None }
+    ensures tells { (result ≡ Done) ⊎ (result ≡ Taken) ⊎ (result ≡ code.Memory) }
 {
     match take(alloc, handle) {
         Some(had) => {
@@ -98,14 +100,17 @@ fn open_handle(alloc: Global, handle: &mut Handle, held: Held) -> Code
 }
 
 // A part of a memory. The room for it comes first: where there is none, no part is used up.
-#[tactic(auto, using(crate::proofs::Opening::boxed, crate::proofs::Opening::kept_same))]
+#[tactic(auto, using(crate::proofs::Opening::held_no_room, crate::proofs::Opening::held_closed))]
 fn part_of(alloc: Global, memory: &mut Held) -> Result<Box<Held>, Code>
-    ensures opens { IfOk result (λ held. OfMemory
-        (λ old new. OpensPart ⟦<AnyLaw as Law>⟧.holds old new (Some held.value)) memory.old memory.new) }
-    ensures kept { IfErr result (λ why. IfMemory (KeepsCells ⟦<AnyLaw as Law>⟧.holds) memory.old memory.new) }
-    ensures fails { IfErr result (λ why. why ≢ Done) }
+    ensures { (answer : Result Thread Code) × IsBoxed answer result
+        × ByMemory (λ old new. GivesOut ⟦<AnyLaw as Law>⟧.holds old new answer) (answer ≡ Err Closed) memory.old memory.new }
 {
-    let empty = Memory::new(alloc, 1, Engine::Tl2)?;
+    if !memory.is_memory() {
+        return Err(Code::Closed);
+    }
+    let Ok(empty) = Memory::new(alloc, 1, Engine::Tl2) else {
+        return Err(Code::Memory);
+    };
     let Ok(mut room) = Box::new(alloc, Held::Memory(empty)) else {
         return Err(Code::Memory);
     };
@@ -115,7 +120,9 @@ fn part_of(alloc: Global, memory: &mut Held) -> Result<Box<Held>, Code>
 
 /// Which version the library is.
 #[unsafe(no_mangle)]
-pub extern "C" fn dstmc_version() -> u32 {
+pub extern "C" fn dstmc_version() -> u32
+    ensures { result ≡ 10000 }
+{
     VERSION
 }
 
@@ -130,6 +137,10 @@ pub extern "C" fn dstmc_memory_new(
     ensures opens { result ≡ 0 → OpensMemory threads engine memory.new.held }
     ensures was_closed { result ≡ 0 → memory.old.held ≡ None }
     ensures kept { result ≢ 0 → memory.new.held ≡ memory.old.held }
+    ensures range { result ≡ 11 ↔ IsOutOfRange threads engine }
+    ensures taken { result ≡ 7 → memory.old.held ≢ None }
+    ensures open { memory.old.held ≢ None → (result ≡ 7) ⊎ (result ≡ 11) }
+    ensures tells { (result ≡ 0) ⊎ (result ≡ 7) ⊎ (result ≡ 10) ⊎ (result ≡ 11) }
 {
     let Some(engine) = engine_of(engine) else {
         return number(Code::Range);
@@ -143,8 +154,7 @@ pub extern "C" fn dstmc_memory_new(
 /// Closes a memory. Parts that threads have stay good.
 #[unsafe(no_mangle)]
 pub extern "C" fn dstmc_memory_free(alloc: Global, memory: &mut Handle) -> u32
-    ensures closed { result ≡ 0 → memory.new.held ≡ None }
-    ensures kept { result ≢ 0 → memory.new.held ≡ memory.old.held }
+    ensures { FreesMemory memory.old.held memory.new.held result }
 {
     match take(alloc, memory) {
         None => number(Code::Closed),
@@ -160,7 +170,7 @@ pub extern "C" fn dstmc_memory_free(alloc: Global, memory: &mut Handle) -> u32
 }
 
 /// Makes a cell, while no thread has a part.
-#[tactic(auto, using(crate::proofs::Opening::opened, crate::proofs::Opening::if_opened, crate::proofs::Opening::if_closed, crate::proofs::Opening::is_part))]
+#[tactic(auto, using(crate::proofs::Opening::by_open, crate::proofs::Opening::by_closed))]
 #[unsafe(no_mangle)]
 pub extern "C" fn dstmc_cell_new(
     alloc: Global,
@@ -169,11 +179,9 @@ pub extern "C" fn dstmc_cell_new(
     high: u64,
     cell: &mut u32,
 ) -> u32
-    ensures made { result ≡ 0 → Opened (OfMemory (λ old new. Grows ⟦<AnyLaw as Law>⟧.holds old new
-        (record { low = low; high = high }) cell.new)) memory.old.held memory.new.held }
-    ensures kept { result ≢ 0 → IfOpened (IfMemory (KeepsCells ⟦<AnyLaw as Law>⟧.holds))
-        memory.old.held memory.new.held }
-    ensures closed { IsNoMemory memory.old.held → result ≡ 6 }
+    ensures { TellsValue result cell.old cell.new (λ answer. OfMemory
+        (λ old new. MakesCell ⟦<AnyLaw as Law>⟧.holds (record { low = low; high = high }) old new answer)
+        (answer ≡ Err Closed) memory.old.held memory.new.held) }
 {
     match take(alloc, memory) {
         None => number(Code::Closed),
@@ -193,7 +201,7 @@ pub extern "C" fn dstmc_cell_new(
 }
 
 /// Tells what a cell holds, while no thread has a part.
-#[tactic(auto, using(crate::proofs::Opening::opened, crate::proofs::Opening::if_opened, crate::proofs::Opening::if_closed, crate::proofs::Opening::is_part))]
+#[tactic(auto, using(crate::proofs::Opening::by_open, crate::proofs::Opening::by_closed))]
 #[unsafe(no_mangle)]
 pub extern "C" fn dstmc_peek(
     alloc: Global,
@@ -202,12 +210,9 @@ pub extern "C" fn dstmc_peek(
     low: &mut u64,
     high: &mut u64,
 ) -> u32
-    ensures value { result ≡ 0 → Opened (OfMemory (λ old new. HasSettled ⟦<AnyLaw as Law>⟧.holds old new.values.items
-        × (value_at new.values.items cell ≡ record { low = low.new; high = high.new })))
-        memory.old.held memory.new.held }
-    ensures kept { result ≢ 0 → IfOpened (IfMemory (KeepsCells ⟦<AnyLaw as Law>⟧.holds))
-        memory.old.held memory.new.held }
-    ensures closed { IsNoMemory memory.old.held → result ≡ 6 }
+    ensures { TellsValue result (record { low = low.old; high = high.old }) (record { low = low.new; high = high.new })
+        (λ answer. OfMemory (λ old new. Peeks ⟦<AnyLaw as Law>⟧.holds cell old new answer) (answer ≡ Err Closed)
+        memory.old.held memory.new.held) }
 {
     match take(alloc, memory) {
         None => number(Code::Closed),
@@ -227,14 +232,13 @@ pub extern "C" fn dstmc_peek(
 }
 
 /// Opens a part for a thread.
-#[tactic(auto, using(crate::proofs::Opening::opens_part, crate::proofs::Opening::opened_same, crate::proofs::Opening::if_opened, crate::proofs::Opening::if_closed))]
+#[tactic(auto, using(crate::proofs::Opening::by_open, crate::proofs::Opening::by_closed))]
 #[unsafe(no_mangle)]
 pub extern "C" fn dstmc_thread_new(alloc: Global, memory: &mut Handle, thread: &mut Handle) -> u32
-    ensures opens { result ≡ 0 → Opened (OfMemory
-        (λ old new. OpensPart ⟦<AnyLaw as Law>⟧.holds old new thread.new.held)) memory.old.held memory.new.held }
-    ensures kept { result ≢ 0 → IfOpened (IfMemory (KeepsCells ⟦<AnyLaw as Law>⟧.holds))
-        memory.old.held memory.new.held }
-    ensures still { result ≢ 0 → thread.new.held ≡ thread.old.held }
+    ensures taken { thread.old.held ≢ None → (result ≡ 7) × (thread.new.held ≡ thread.old.held)
+        × (memory.new.held ≡ memory.old.held) }
+    ensures opens { thread.old.held ≡ None → OpensPart ⟦<AnyLaw as Law>⟧.holds memory.old.held memory.new.held
+        thread.new.held result }
 {
     if let Some(had) = take(alloc, thread) {
         *thread = Handle::of(had);
@@ -260,8 +264,7 @@ pub extern "C" fn dstmc_thread_new(alloc: Global, memory: &mut Handle, thread: &
 /// Gives a thread's part back. A transaction that is under way is given up first.
 #[unsafe(no_mangle)]
 pub extern "C" fn dstmc_thread_free(alloc: Global, thread: &mut Handle) -> u32
-    ensures closed { result ≡ 0 → thread.new.held ≡ None }
-    ensures kept { result ≢ 0 → thread.new.held ≡ thread.old.held }
+    ensures { FreesPart ⟦<AnyLaw as Law>⟧.holds thread.old.held thread.new.held result }
 {
     match take(alloc, thread) {
         None => number(Code::Closed),
@@ -278,30 +281,46 @@ pub extern "C" fn dstmc_thread_free(alloc: Global, thread: &mut Handle) -> u32
     }
 }
 
+/// Before an attempt at a transaction that was lost so often: tells whether another thread, which has the turn, is let go
+/// first.
+#[tactic(auto, using(crate::proofs::Opening::by_open, crate::proofs::Opening::by_closed))]
+#[unsafe(no_mangle)]
+pub extern "C" fn dstmc_turn(alloc: Global, thread: &mut Handle, lost: u32) -> u32
+    ensures { Tells result (λ code. OfPart (λ old new. Enters old new code) (code ≡ Closed)
+        thread.old.held thread.new.held) }
+{
+    number(replace_with(thread, (alloc, lost), enter))
+}
+
+// Takes the turn, or looks whose it is, by what a handle stands for.
+#[tactic(auto, using(crate::proofs::Opening::by_open, crate::proofs::Opening::by_closed))]
+#[inline]
+fn enter(thread: Handle, by: (Global, u32)) -> (Handle, Code)
+    ensures { OfPart (λ old new. Enters old new result.1) (result.1 ≡ Closed) thread.held result.0.held }
+{
+    let (alloc, lost) = by;
+    let Some(mut held) = thread.into_held() else {
+        return (Handle::closed(alloc), Code::Closed);
+    };
+    let code = held.enter(lost);
+    (Handle::of(held), code)
+}
+
 /// Begins a transaction, or the next attempt at one that was lost.
-#[tactic(auto, using(crate::proofs::Opening::opened, crate::proofs::Opening::if_opened, crate::proofs::Opening::if_closed, crate::proofs::Opening::is_memory))]
+#[tactic(auto, using(crate::proofs::Opening::by_open, crate::proofs::Opening::by_closed))]
 #[unsafe(no_mangle)]
 pub extern "C" fn dstmc_begin(alloc: Global, thread: &mut Handle) -> u32
-    ensures begins { result ≡ 0 → Opened (OfPart (λ old new. Begins ⟦<AnyLaw as Law>⟧.holds (starting old)
-        new.attempts.caller)) thread.old.held thread.new.held }
-    ensures nothing { IfOpened (IfPart (λ old new. AddsNothing old.attempts.caller new.attempts.caller))
-        thread.old.held thread.new.held }
-    ensures tells { IfOpened (IfPart (λ old new. Tells result (BeginsOr old new))) thread.old.held thread.new.held }
-    ensures closed { IsNoPart thread.old.held → result ≡ 6 }
+    ensures { Tells result (λ code. OfPart (λ old new. BeginsOr ⟦<AnyLaw as Law>⟧.holds old new code) (code ≡ Closed)
+        thread.old.held thread.new.held) }
 {
     number(replace_with(thread, alloc, begin))
 }
 
 // Begins by what a handle stands for.
-#[tactic(auto, using(crate::proofs::Opening::opened, crate::proofs::Opening::if_opened, crate::proofs::Opening::if_closed, crate::proofs::Opening::is_memory))]
+#[tactic(auto, using(crate::proofs::Opening::by_open, crate::proofs::Opening::by_closed))]
 #[inline]
 fn begin(thread: Handle, alloc: Global) -> (Handle, Code)
-    ensures begins { result.1 ≡ Done → Opened (OfPart (λ old new. Begins ⟦<AnyLaw as Law>⟧.holds (starting old)
-        new.attempts.caller)) thread.held result.0.held }
-    ensures nothing { IfOpened (IfPart (λ old new. AddsNothing old.attempts.caller new.attempts.caller))
-        thread.held result.0.held }
-    ensures tells { IfOpened (IfPart (λ old new. BeginsOr old new result.1)) thread.held result.0.held }
-    ensures closed { IsNoPart thread.held → result.1 ≡ Closed }
+    ensures { OfPart (λ old new. BeginsOr ⟦<AnyLaw as Law>⟧.holds old new result.1) (result.1 ≡ Closed) thread.held result.0.held }
 {
     let Some(mut held) = thread.into_held() else {
         return (Handle::closed(alloc), Code::Closed);
@@ -311,7 +330,7 @@ fn begin(thread: Handle, alloc: Global) -> (Handle, Code)
 }
 
 /// Tells what a cell holds.
-#[tactic(auto, using(crate::proofs::Opening::opened, crate::proofs::Opening::if_opened, crate::proofs::Opening::if_closed, crate::proofs::Opening::is_memory))]
+#[tactic(auto, using(crate::proofs::Opening::by_open, crate::proofs::Opening::by_closed))]
 #[unsafe(no_mangle)]
 pub extern "C" fn dstmc_get(
     alloc: Global,
@@ -320,17 +339,9 @@ pub extern "C" fn dstmc_get(
     low: &mut u64,
     high: &mut u64,
 ) -> u32
-    ensures finds { result ≡ 0 → Opened (OfPart (λ old new. Finds ⟦<AnyLaw as Law>⟧.holds old.attempts.caller
-        new.attempts.caller cell (record { low = low.new; high = high.new }))) thread.old.held thread.new.held }
-    ensures unset { result ≢ 0 → IfOpened (IfPart (λ old new. SetsNothing ⟦<AnyLaw as Law>⟧.holds old.attempts.caller
-        new.attempts.caller)) thread.old.held thread.new.held }
-    ensures may { result ≡ 0 → Opened (OfPart (λ old new. (map : List Val) × MayBegin ⟦<AnyLaw as Law>⟧.holds
-        new.attempts.caller map)) thread.old.held thread.new.held }
-    ensures once { result ≡ 0 → Opened (OfPart (λ old new. Opens ⟦<AnyLaw as Law>⟧.holds false cell old.attempts.caller
-        new.attempts.caller)) thread.old.held thread.new.held }
-    ensures stops { result ≢ 0 → IfOpened (IfPart
-        (λ old new. Tells result (StopsLook ⟦<AnyLaw as Law>⟧.holds cell old new))) thread.old.held thread.new.held }
-    ensures closed { IsNoPart thread.old.held → result ≡ 6 }
+    ensures { TellsValue result (record { low = low.old; high = high.old }) (record { low = low.new; high = high.new })
+        (λ answer. OfPart (λ old new. Gets ⟦<AnyLaw as Law>⟧.holds cell old new answer) (answer ≡ Err Closed)
+        thread.old.held thread.new.held) }
 {
     match replace_with(thread, (alloc, cell), get) {
         Ok(value) => {
@@ -342,21 +353,10 @@ pub extern "C" fn dstmc_get(
 }
 
 // Gets by what a handle stands for.
-#[tactic(auto, using(crate::proofs::Opening::opened, crate::proofs::Opening::if_opened, crate::proofs::Opening::if_closed, crate::proofs::Opening::is_memory))]
+#[tactic(auto, using(crate::proofs::Opening::by_open, crate::proofs::Opening::by_closed))]
 #[inline]
 fn get(thread: Handle, by: (Global, u32)) -> (Handle, Result<Val, Code>)
-    ensures finds { IfOk result.1 (λ value. Opened (OfPart (λ old new. Finds ⟦<AnyLaw as Law>⟧.holds old.attempts.caller
-        new.attempts.caller by.1 value)) thread.held result.0.held) }
-    ensures unset { IfErr result.1 (λ why. IfOpened (IfPart (λ old new. SetsNothing ⟦<AnyLaw as Law>⟧.holds
-        old.attempts.caller new.attempts.caller)) thread.held result.0.held) }
-    ensures fails { IfErr result.1 (λ why. why ≢ Done) }
-    ensures may { OnOk result.1 (Opened (OfPart (λ old new. (map : List Val) × MayBegin ⟦<AnyLaw as Law>⟧.holds
-        new.attempts.caller map)) thread.held result.0.held) }
-    ensures once { OnOk result.1 (Opened (OfPart (λ old new. Opens ⟦<AnyLaw as Law>⟧.holds false by.1
-        old.attempts.caller new.attempts.caller)) thread.held result.0.held) }
-    ensures stops { IfErr result.1 (λ why. IfOpened (IfPart
-        (λ old new. StopsLook ⟦<AnyLaw as Law>⟧.holds by.1 old new why)) thread.held result.0.held) }
-    ensures closed { IsNoPart thread.held → result.1 ≡ Err Closed }
+    ensures { OfPart (λ old new. Gets ⟦<AnyLaw as Law>⟧.holds by.1 old new result.1) (result.1 ≡ Err Closed) thread.held result.0.held }
 {
     let (alloc, cell) = by;
     let Some(mut held) = thread.into_held() else {
@@ -367,7 +367,7 @@ fn get(thread: Handle, by: (Global, u32)) -> (Handle, Result<Val, Code>)
 }
 
 /// Puts a value into a cell.
-#[tactic(auto, using(crate::proofs::Opening::opened, crate::proofs::Opening::if_opened, crate::proofs::Opening::if_closed, crate::proofs::Opening::is_memory))]
+#[tactic(auto, using(crate::proofs::Opening::by_open, crate::proofs::Opening::by_closed))]
 #[unsafe(no_mangle)]
 pub extern "C" fn dstmc_set(
     alloc: Global,
@@ -376,37 +376,20 @@ pub extern "C" fn dstmc_set(
     low: u64,
     high: u64,
 ) -> u32
-    ensures puts { result ≡ 0 → Opened (OfPart (λ old new. (had : Val) × Exchanges ⟦<AnyLaw as Law>⟧.holds
-        old.attempts.caller new.attempts.caller cell had (record { low = low; high = high })))
-        thread.old.held thread.new.held }
-    ensures unset { result ≢ 0 → IfOpened (IfPart (λ old new. SetsNothing ⟦<AnyLaw as Law>⟧.holds old.attempts.caller
-        new.attempts.caller)) thread.old.held thread.new.held }
-    ensures may { result ≡ 0 → Opened (OfPart (λ old new. (map : List Val) × MayBegin ⟦<AnyLaw as Law>⟧.holds
-        new.attempts.caller map)) thread.old.held thread.new.held }
-    ensures once { result ≡ 0 → Opened (OfPart (λ old new. Opens ⟦<AnyLaw as Law>⟧.holds true cell old.attempts.caller
-        new.attempts.caller)) thread.old.held thread.new.held }
-    ensures stops { result ≢ 0 → IfOpened (IfPart
-        (λ old new. Tells result (StopsChange ⟦<AnyLaw as Law>⟧.holds cell old new))) thread.old.held thread.new.held }
-    ensures closed { IsNoPart thread.old.held → result ≡ 6 }
+    ensures { TellsAnswer result (λ answer. OfPart
+        (λ old new. Sets ⟦<AnyLaw as Law>⟧.holds cell (record { low = low; high = high }) old new answer)
+        (answer ≡ Err Closed) thread.old.held thread.new.held) }
 {
     number(replace_with(thread, (alloc, cell, Val { low, high }), set))
 }
 
 // Sets by what a handle stands for.
-#[tactic(auto, using(crate::proofs::Opening::opened, crate::proofs::Opening::if_opened, crate::proofs::Opening::if_closed, crate::proofs::Opening::is_memory))]
+#[tactic(auto, using(crate::proofs::Opening::by_open, crate::proofs::Opening::by_closed))]
 #[inline]
 fn set(thread: Handle, by: (Global, u32, Val)) -> (Handle, Code)
-    ensures puts { result.1 ≡ Done → Opened (OfPart (λ old new. (had : Val) × Exchanges ⟦<AnyLaw as Law>⟧.holds
-        old.attempts.caller new.attempts.caller by.1 had by.2)) thread.held result.0.held }
-    ensures unset { result.1 ≢ Done → IfOpened (IfPart (λ old new. SetsNothing ⟦<AnyLaw as Law>⟧.holds
-        old.attempts.caller new.attempts.caller)) thread.held result.0.held }
-    ensures may { result.1 ≡ Done → Opened (OfPart (λ old new. (map : List Val) × MayBegin ⟦<AnyLaw as Law>⟧.holds
-        new.attempts.caller map)) thread.held result.0.held }
-    ensures once { result.1 ≡ Done → Opened (OfPart (λ old new. Opens ⟦<AnyLaw as Law>⟧.holds true by.1
-        old.attempts.caller new.attempts.caller)) thread.held result.0.held }
-    ensures stops { result.1 ≢ Done → IfOpened (IfPart
-        (λ old new. StopsChange ⟦<AnyLaw as Law>⟧.holds by.1 old new result.1)) thread.held result.0.held }
-    ensures closed { IsNoPart thread.held → result.1 ≡ Closed }
+    ensures { (answer : Result Val Code) × (result.1 ≡ code_of answer)
+        × OfPart (λ old new. Sets ⟦<AnyLaw as Law>⟧.holds by.1 by.2 old new answer) (answer ≡ Err Closed)
+        thread.held result.0.held }
 {
     let (alloc, cell, value) = by;
     let Some(mut held) = thread.into_held() else {
@@ -419,31 +402,20 @@ fn set(thread: Handle, by: (Global, u32, Val)) -> (Handle, Code)
 }
 
 /// Commits the transaction.
-#[tactic(auto, using(crate::proofs::Opening::opened, crate::proofs::Opening::if_opened, crate::proofs::Opening::if_closed, crate::proofs::Opening::is_memory))]
+#[tactic(auto, using(crate::proofs::Opening::by_open, crate::proofs::Opening::by_closed))]
 #[unsafe(no_mangle)]
 pub extern "C" fn dstmc_commit(alloc: Global, thread: &mut Handle) -> u32
-    ensures takes { result ≡ 0 → Opened (OfPart (λ old new. TakesEffect ⟦<AnyLaw as Law>⟧.holds old.attempts.caller
-        new.attempts.caller)) thread.old.held thread.new.held }
-    ensures nothing { result ≢ 0 → IfOpened (IfPart (λ old new. AddsNothing old.attempts.caller new.attempts.caller))
-        thread.old.held thread.new.held }
-    ensures stops { result ≢ 0 → IfOpened (IfPart
-        (λ old new. Tells result (StopsCommit ⟦<AnyLaw as Law>⟧.holds old new))) thread.old.held thread.new.held }
-    ensures closed { IsNoPart thread.old.held → result ≡ 6 }
+    ensures { Tells result (λ code. OfPart (λ old new. Commits ⟦<AnyLaw as Law>⟧.holds old new code) (code ≡ Closed)
+        thread.old.held thread.new.held) }
 {
     number(replace_with(thread, alloc, commit))
 }
 
 // Commits by what a handle stands for.
-#[tactic(auto, using(crate::proofs::Opening::opened, crate::proofs::Opening::if_opened, crate::proofs::Opening::if_closed, crate::proofs::Opening::is_memory))]
+#[tactic(auto, using(crate::proofs::Opening::by_open, crate::proofs::Opening::by_closed))]
 #[inline]
 fn commit(thread: Handle, alloc: Global) -> (Handle, Code)
-    ensures takes { result.1 ≡ Done → Opened (OfPart (λ old new. TakesEffect ⟦<AnyLaw as Law>⟧.holds old.attempts.caller
-        new.attempts.caller)) thread.held result.0.held }
-    ensures nothing { result.1 ≢ Done → IfOpened (IfPart (λ old new. AddsNothing old.attempts.caller
-        new.attempts.caller)) thread.held result.0.held }
-    ensures stops { result.1 ≢ Done → IfOpened (IfPart
-        (λ old new. StopsCommit ⟦<AnyLaw as Law>⟧.holds old new result.1)) thread.held result.0.held }
-    ensures closed { IsNoPart thread.held → result.1 ≡ Closed }
+    ensures { OfPart (λ old new. Commits ⟦<AnyLaw as Law>⟧.holds old new result.1) (result.1 ≡ Closed) thread.held result.0.held }
 {
     let Some(mut held) = thread.into_held() else {
         return (Handle::closed(alloc), Code::Closed);
@@ -453,16 +425,11 @@ fn commit(thread: Handle, alloc: Global) -> (Handle, Code)
 }
 
 /// Gives the transaction up.
-#[tactic(auto, using(crate::proofs::Opening::if_opened, crate::proofs::Opening::if_closed, crate::proofs::Opening::is_memory))]
+#[tactic(auto, using(crate::proofs::Opening::by_open, crate::proofs::Opening::by_closed))]
 #[unsafe(no_mangle)]
 pub extern "C" fn dstmc_abort(alloc: Global, thread: &mut Handle) -> u32
-    ensures nothing { IfOpened (IfPart (λ old new. AddsNothing old.attempts.caller new.attempts.caller))
-        thread.old.held thread.new.held }
-    ensures gives_up { IfOpened (IfPart (λ old new. Tells result (GivesUp old new))) thread.old.held thread.new.held }
-    ensures leaves { IfOpened (IfPart (λ old new. old.begun ≡ true
-        → IsAbandoned ⟦<AnyLaw as Law>⟧.holds old.attempts.caller new.attempts.caller))
-        thread.old.held thread.new.held }
-    ensures closed { IsNoPart thread.old.held → result ≡ 6 }
+    ensures { Tells result (λ code. OfPart (λ old new. GivesUp ⟦<AnyLaw as Law>⟧.holds old new code) (code ≡ Closed)
+        thread.old.held thread.new.held) }
 {
     match take(alloc, thread) {
         None => number(Code::Closed),
@@ -476,13 +443,11 @@ pub extern "C" fn dstmc_abort(alloc: Global, thread: &mut Handle) -> u32
 }
 
 /// Looks whether something that the transaction has read may have changed.
-#[tactic(auto, using(crate::proofs::Opening::if_opened, crate::proofs::Opening::if_closed, crate::proofs::Opening::is_memory))]
+#[tactic(auto, using(crate::proofs::Opening::by_open, crate::proofs::Opening::by_closed))]
 #[unsafe(no_mangle)]
 pub extern "C" fn dstmc_look(alloc: Global, thread: &mut Handle) -> u32
-    ensures nothing { IfOpened (IfPart (λ old new. AddsNothing old.attempts.caller new.attempts.caller))
-        thread.old.held thread.new.held }
-    ensures looks { IfOpened (IfPart (λ old new. Tells result (Looks old new))) thread.old.held thread.new.held }
-    ensures closed { IsNoPart thread.old.held → result ≡ 6 }
+    ensures { Tells result (λ code. OfPart (λ old new. Looks old new code) (code ≡ Closed)
+        thread.old.held thread.new.held) }
 {
     match take(alloc, thread) {
         None => number(Code::Closed),
@@ -496,14 +461,11 @@ pub extern "C" fn dstmc_look(alloc: Global, thread: &mut Handle) -> u32
 }
 
 /// Marks what the transaction has set.
-#[tactic(auto, using(crate::proofs::Opening::opened, crate::proofs::Opening::if_opened, crate::proofs::Opening::if_closed, crate::proofs::Opening::is_memory))]
+#[tactic(auto, using(crate::proofs::Opening::by_open, crate::proofs::Opening::by_closed))]
 #[unsafe(no_mangle)]
 pub extern "C" fn dstmc_mark(alloc: Global, thread: &mut Handle, mark: &mut u64) -> u32
-    ensures marks { result ≡ 0 → Opened (OfPart (λ old new. Marks old new (Ok mark.new)))
-        thread.old.held thread.new.held }
-    ensures stops { result ≢ 0 → IfOpened (IfPart (λ old new. Tells result (λ code. Marks old new (Err code))))
-        thread.old.held thread.new.held }
-    ensures closed { IsNoPart thread.old.held → result ≡ 6 }
+    ensures { TellsValue result mark.old mark.new (λ answer. OfPart (λ old new. Marks old new answer)
+        (answer ≡ Err Closed) thread.old.held thread.new.held) }
 {
     match take(alloc, thread) {
         None => number(Code::Closed),
@@ -523,12 +485,11 @@ pub extern "C" fn dstmc_mark(alloc: Global, thread: &mut Handle, mark: &mut u64)
 }
 
 /// Undoes what was set since a mark.
-#[tactic(auto, using(crate::proofs::Opening::if_opened, crate::proofs::Opening::if_closed, crate::proofs::Opening::is_memory))]
+#[tactic(auto, using(crate::proofs::Opening::by_open, crate::proofs::Opening::by_closed))]
 #[unsafe(no_mangle)]
 pub extern "C" fn dstmc_undo_to(alloc: Global, thread: &mut Handle, mark: u64) -> u32
-    ensures undoes { IfOpened (IfPart (λ old new. Tells result (UndoesTo ⟦<AnyLaw as Law>⟧.holds mark old new)))
-        thread.old.held thread.new.held }
-    ensures closed { IsNoPart thread.old.held → result ≡ 6 }
+    ensures { Tells result (λ code. OfPart (λ old new. UndoesTo ⟦<AnyLaw as Law>⟧.holds mark old new code) (code ≡ Closed)
+        thread.old.held thread.new.held) }
 {
     match take(alloc, thread) {
         None => number(Code::Closed),

@@ -1,87 +1,73 @@
--- Where a call does nothing, and how a transaction begins.
-use Rattle.std.proofs.Common.{◌≡◌, ℕ, Bool, true, false, Ok, Err, ap, inl, inr, refl, subst, sym}
+-- How a transaction begins.
+use Rattle.std.proofs.Common.{◌≡◌, ◌⊎◌, Bool, List, true, false, ap, inl, inr, refl, subst, sym}
 use Rattle.std.proofs.lemmas.Bool.{cases_Bool}
-use Rattle.std.specs.Prelude.{Result, if◌then◌else◌}
+use Rattle.std.specs.Prelude.{if◌then◌else◌}
 use Rattle.dstm_model.specs.declared.value.AnyLaw.{AnyLaw}
+use Rattle.dstm_model.specs.declared.value.Val.{Val}
 use Rattle.dstm_tables.specs.Callers.{home_of}
 use Rattle.dstm_tables.specs.Tables.{objects_there}
 use Rattle.dstm_tables.specs.declared.tables.Caller.{Caller}
 use Rattle.dstm_tables.specs.declared.tables.Caller.TheVariants.{Dstm, Tl2}
-use Rattle.dstm_attempts.specs.Attempts as attempts
-use Rattle.dstm_attempts.specs.Attempts.{AddsNothing, objects_of, renewed}
-use Rattle.dstm_attempts.specs.declared.error.NotOpened.{NotOpened}
-use Rattle.dstm_attempts.specs.declared.error.NotOpened.TheVariants.{Over, Foreign}
-use Rattle.dstm_handles.specs.Threads.{MayCall, Refuses, RefusesBy, code_for, starting}
+use Rattle.dstm_attempts.specs.Attempts.{AddsNothing, goes_on, objects_of, renewed}
+use Rattle.dstm_attempts.proofs.UnderWay.{nothing_twice}
+use Rattle.dstm_handles.specs.Threads.{BeginsOr, HasBegun, HasNoneLeft, MayCall, starting}
 use Rattle.dstm_handles.specs.declared.code.Code.{Code}
+use Rattle.dstm_handles.specs.declared.code.Code.TheVariants.{Done, Open, Spent}
 use Rattle.dstm_handles.specs.declared.thread.Thread.{Thread}
 
--- an answer of an attempt, as a part hands it out
-abbrev pub handed_out : {T : Type 0} → Result T NotOpened → Result T Code
-handed_out (Ok x) = Ok x
-handed_out (Err why) = Err (code_for why)
-
-not_both : (b : Bool) → b ≡ true → b ≡ false → ⊥
+pub not_both : (b : Bool) → b ≡ true → b ≡ false → ⊥
 not_both b is is_not = cc
-
--- a part that may call is not refused
-pub allows : (t : Thread) (is : Code → Type 0) → MayCall t → RefusesBy t is
-allows t is may = record {
-  idle = λ none. absurd (not_both t.begun may.begun none);
-  waits = λ begun waits. absurd (not_both t.waits waits may.waits);
-}
-
--- what is refused before a cell is named
-pub refuses_early : {T : Type 0} (t : Thread) (cell : ℕ) (code : Code) → (MayCall t → ⊥) → RefusesBy t (λ why. code ≡ why) →
-    Refuses {T = T} t cell (Err code)
-refuses_early t cell code never refuses = record {
-  all = record { idle = λ none. ap Err (refuses.idle none); waits = λ begun waits. ap Err (refuses.waits begun waits) };
-  lost = λ may. absurd (never may);
-  foreign = λ may. absurd (never may);
-}
-
--- what an attempt refuses, a part does
-pub refuses_by : {T : Type 0} (t : Thread) (cell : ℕ) (answer : Result T NotOpened) → MayCall t →
-    attempts.Refuses t.attempts.caller cell answer → Refuses t cell (handed_out answer)
-refuses_by t cell answer may refuses = record {
-  all = allows t _ may;
-  lost = λ may is. ap handed_out (refuses.over is);
-  foreign = λ may is out. ap handed_out (refuses.foreign is out);
-}
-
--- where an open was not refused, nothing is
-pub refuses_none : {T U : Type 0} (t : Thread) (cell : ℕ) (found : T) (answer : Result U Code) → MayCall t →
-    attempts.Refuses t.attempts.caller cell (Ok found) → Refuses t cell answer
-refuses_none {T} t cell found answer may refuses = record {
-  all = allows t _ may;
-  lost = λ may is. absurd (never Over (refuses.over is));
-  foreign = λ may is out. absurd (never Foreign (refuses.foreign is out));
-}
-  where
-    never : (why : NotOpened) → Ok found ≡ Err why → ⊥
-    never why is = cc
 
 -- ---- how a transaction begins
 
-pub starting_new : (t : Thread) → t.begun ≡ false → renewed t.attempts.caller ≡ starting t
-starting_new t is = sym (ap (λ (b : Bool). if b then t.attempts.caller else renewed t.attempts.caller) is)
+pub starting_new : (t : Thread) → t.begun ≡ false → renewed t.tx.attempts.caller ≡ starting t
+starting_new t is = sym (ap (λ (b : Bool). if b then t.tx.attempts.caller else renewed t.tx.attempts.caller) is)
 
-pub starting_on : (t : Thread) → t.begun ≡ true → t.attempts.caller ≡ starting t
-starting_on t is = sym (ap (λ (b : Bool). if b then t.attempts.caller else renewed t.attempts.caller) is)
+pub starting_on : (t : Thread) → t.begun ≡ true → t.tx.attempts.caller ≡ starting t
+starting_on t is = sym (ap (λ (b : Bool). if b then t.tx.attempts.caller else renewed t.tx.attempts.caller) is)
 
 -- the first attempt of a new transaction is one of the same caller
 pub renewed_adds : (k : Caller AnyLaw) → AddsNothing k (renewed k)
 renewed_adds (Dstm k) = record { home = refl; number = refl; done = refl }
 renewed_adds (Tl2 k) = record { home = refl; number = refl; done = refl }
 
-pub starting_adds : (t : Thread) → AddsNothing t.attempts.caller (starting t)
+pub starting_adds : (t : Thread) → AddsNothing t.tx.attempts.caller (starting t)
 starting_adds t =
     elim (cases_Bool t.begun) [
       | inl is ↦
-          subst (AddsNothing t.attempts.caller) (starting_on t is) (record { home = refl; number = refl; done = refl })
-      | inr is ↦ subst (AddsNothing t.attempts.caller) (starting_new t is) (renewed_adds t.attempts.caller)
+          subst (AddsNothing t.tx.attempts.caller) (starting_on t is) (record { home = refl; number = refl; done = refl })
+      | inr is ↦ subst (AddsNothing t.tx.attempts.caller) (starting_new t is) (renewed_adds t.tx.attempts.caller)
     ]
 
 -- a caller has the objects of its table
 pub objects_are : (k : Caller AnyLaw) → objects_of k ≡ objects_there (home_of k)
 objects_are (Dstm k) = refl
 objects_are (Tl2 k) = refl
+
+-- where no transaction is under way none goes on
+pub never_begun : (t : Thread) → t.begun ≡ false → MayCall t → goes_on t.tx.attempts.caller ≡ true → ⊥
+never_begun t none may goes = not_both t.begun may.begun none
+
+-- an attempt that begins, of a transaction that may not go on as it is
+pub begins_from : (holds : AnyLaw → List Val → Type 0) (t new : Thread) (k : Caller AnyLaw) (code : Code) → k ≡ starting t →
+    (MayCall t → goes_on t.tx.attempts.caller ≡ true → ⊥) → (code ≡ Done) ⊎ (code ≡ Spent) →
+    (code ≡ Done → HasBegun holds k new) → (code ≡ Spent → HasNoneLeft holds k new) → AddsNothing k new.tx.attempts.caller →
+    BeginsOr holds t new code
+begins_from holds t new k code is over tells begins spent nothing = record {
+  tells = elim tells [ inl done ↦ inl done | inr none ↦ inr (inl none) ];
+  begins = λ done. subst (λ (k : Caller AnyLaw). HasBegun holds k new) is (begins done);
+  spent = λ none. subst (λ (k : Caller AnyLaw). HasNoneLeft holds k new) is (spent none);
+  live = λ is_open. absurd (elim tells [
+    | inl done ↦ done_open is_open done
+    | inr none ↦ none_open is_open none
+  ]);
+  under_way = λ may goes. absurd (over may goes);
+  nothing = nothing_twice t.tx.attempts.caller (starting t) new.tx.attempts.caller (starting_adds t)
+      (subst (λ (k : Caller AnyLaw). AddsNothing k new.tx.attempts.caller) is nothing);
+}
+  where
+    done_open : code ≡ Open → code ≡ Done → ⊥
+    done_open is_open done = cc
+
+    none_open : code ≡ Open → code ≡ Spent → ⊥
+    none_open is_open none = cc

@@ -2,4 +2,3 @@ mod Calling
 mod Crossing
 mod Founding
 pub mod Handles
-mod Undoing

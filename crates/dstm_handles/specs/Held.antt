@@ -5,32 +5,22 @@ use Rattle.dstm_handles.specs.declared.held.Held.TheVariants as held
 use Rattle.dstm_handles.specs.declared.memory.Memory.{Memory}
 use Rattle.dstm_handles.specs.declared.thread.Thread.{Thread}
 
--- it is a part before and after, and this has become of it
-abbrev pub OfPart : (goes : Thread → Thread → Type 0) → Held → Held → Type 0
-OfPart goes (held.Thread old) (held.Thread new) = goes old new
-OfPart goes old new = ⊥
+-- WHAT BECOMES of what a handle stands for by a call on a part: this, of a part; a memory stays as it is, and this is answered
+abbrev pub ByPart : (goes : Thread → Thread → Type 0) → (closed : Type 0) → Held → Held → Type 0
+ByPart goes closed (held.Thread old) (held.Thread new) = goes old new
+ByPart goes closed (held.Memory old) (held.Memory new) = closed × (new ≡ old)
+ByPart goes closed old new = ⊥
 
--- the same of a part; and a memory stays as it is
-abbrev pub IfPart : (goes : Thread → Thread → Type 0) → Held → Held → Type 0
-IfPart goes (held.Thread old) (held.Thread new) = goes old new
-IfPart goes (held.Memory old) (held.Memory new) = new ≡ old
-IfPart goes old new = ⊥
+-- the same by a call on a memory
+abbrev pub ByMemory : (goes : Memory → Memory → Type 0) → (closed : Type 0) → Held → Held → Type 0
+ByMemory goes closed (held.Memory old) (held.Memory new) = goes old new
+ByMemory goes closed (held.Thread old) (held.Thread new) = closed × (new ≡ old)
+ByMemory goes closed old new = ⊥
 
 -- it is no part that makes a transaction
 abbrev pub IsIdle : Held → Type 0
 IsIdle (held.Thread t) = t.begun ≡ false
 IsIdle (held.Memory m) = Unit {0}
-
--- it is a memory before and after, and this has become of it
-abbrev pub OfMemory : (goes : Memory → Memory → Type 0) → Held → Held → Type 0
-OfMemory goes (held.Memory old) (held.Memory new) = goes old new
-OfMemory goes old new = ⊥
-
--- the same of a memory; and a part stays as it is
-abbrev pub IfMemory : (goes : Memory → Memory → Type 0) → Held → Held → Type 0
-IfMemory goes (held.Memory old) (held.Memory new) = goes old new
-IfMemory goes (held.Thread old) (held.Thread new) = new ≡ old
-IfMemory goes old new = ⊥
 
 -- it is a memory
 abbrev pub IsMemory : Held → Type 0
@@ -42,13 +32,14 @@ abbrev pub IsPart : Held → Type 0
 IsPart (held.Memory m) = ⊥
 IsPart (held.Thread t) = Unit {0}
 
--- a handle is not closed before nor after, and this has become of what it stands for
-abbrev pub Opened : (goes : Held → Held → Type 0) → Option Held → Option Held → Type 0
-Opened goes (Some old) (Some new) = goes old new
-Opened goes old new = ⊥
+-- and by a call on a handle: this, of what it stands for; a closed one stays closed, and this is answered
+abbrev pub ByHandle : (goes : Held → Held → Type 0) → (closed : Type 0) → Option Held → Option Held → Type 0
+ByHandle goes closed (Some old) (Some new) = goes old new
+ByHandle goes closed None None = closed
+ByHandle goes closed old new = ⊥
 
--- the same of one that is not closed; and a closed one stays closed
-abbrev pub IfOpened : (goes : Held → Held → Type 0) → Option Held → Option Held → Type 0
-IfOpened goes (Some old) (Some new) = goes old new
-IfOpened goes None None = Unit {0}
-IfOpened goes old new = ⊥
+abbrev pub OfPart : (goes : Thread → Thread → Type 0) → (closed : Type 0) → Option Held → Option Held → Type 0
+OfPart goes closed = ByHandle (ByPart goes closed) closed
+
+abbrev pub OfMemory : (goes : Memory → Memory → Type 0) → (closed : Type 0) → Option Held → Option Held → Type 0
+OfMemory goes closed = ByHandle (ByMemory goes closed) closed

@@ -2,5 +2,4 @@ pub mod Held
 pub mod Memories
 pub mod Owned
 pub mod Threads
-pub mod Undoing
 pub mod Waiting

@@ -3,9 +3,10 @@ use Rattle.std.specs.Prelude.{◌≡◌, ◌≢◌, ◌⊎◌, Bool, false, true
 use Rattle.dstm_model.specs.declared.value.Val.{Val}
 use Rattle.dstm_model.specs.declared.value.AnyLaw.{AnyLaw}
 use Rattle.dstm_tables.specs.declared.tables.Caller.{Caller}
-use Rattle.dstm_attempts.specs.Attempts.{BeginsNone, LooksChanged, LooksOnce, LooksSame, LooksSpent}
+use Rattle.dstm_attempts.specs.Attempts.{AddsNothing, BeginsNone, LooksChanged, LooksOnce, LooksSame, LooksSpent}
 use Rattle.dstm_attempts.specs.Waiting.{IsSpentLettingGo, LetsGo}
 use Rattle.dstm_attempts.specs.Waiting as attempts
+use Rattle.dstm_handles.specs.Threads.{caller_of}
 use Rattle.dstm_handles.specs.declared.code.Code.{Code}
 use Rattle.dstm_handles.specs.declared.code.Code.TheVariants.{Again, Done, Idle, Memory, Spent}
 use Rattle.dstm_handles.specs.declared.thread.Thread.{Thread}
@@ -35,33 +36,33 @@ HasNoRoomBefore true old new = ⊥
 -- a look has found nothing changed
 pub record FindsNoChange (old new : Thread) : Type 0 where
   pub first : Caller AnyLaw
-  pub lets_go : LetsGoBefore old.waits old.attempts.caller first
-  pub looks : LooksSame old.since first new.attempts.caller
-  pub once : LooksOnce any first new.attempts.caller
+  pub lets_go : LetsGoBefore old.waits (caller_of old) first
+  pub looks : LooksSame old.since first (caller_of new)
+  pub once : LooksOnce any first (caller_of new)
 
 -- a look has found a change
 pub record LooksOnChanged (old new : Thread) : Type 0 where
   pub first : Caller AnyLaw
-  pub lets_go : LetsGoBefore old.waits old.attempts.caller first
-  pub looks : LooksChanged any old.since first new.attempts.caller
-  pub once : LooksOnce any first new.attempts.caller
+  pub lets_go : LetsGoBefore old.waits (caller_of old) first
+  pub looks : LooksChanged any old.since first (caller_of new)
+  pub once : LooksOnce any first (caller_of new)
 
 abbrev pub FindsChange : Thread → Thread → Type 0
-FindsChange old new = FindsChangeBefore old.waits old.attempts.caller new.attempts.caller ⊎ LooksOnChanged old new
+FindsChange old new = FindsChangeBefore old.waits (caller_of old) (caller_of new) ⊎ LooksOnChanged old new
 
 -- no attempt was left to look
 pub record LooksOnSpent (old new : Thread) : Type 0 where
   pub first : Caller AnyLaw
-  pub lets_go : LetsGoBefore old.waits old.attempts.caller first
-  pub looks : LooksSpent first new.attempts.caller
-  pub unbegun : BeginsNone any first new.attempts.caller
+  pub lets_go : LetsGoBefore old.waits (caller_of old) first
+  pub looks : LooksSpent first (caller_of new)
+  pub unbegun : BeginsNone any first (caller_of new)
 
 abbrev pub IsSpentLooking : Thread → Thread → Type 0
-IsSpentLooking old new = IsSpentBefore old.waits old.attempts.caller new.attempts.caller ⊎ LooksOnSpent old new
+IsSpentLooking old new = IsSpentBefore old.waits (caller_of old) (caller_of new) ⊎ LooksOnSpent old new
 
 -- no memory was left to let go
 abbrev pub HasNoRoom : Thread → Thread → Type 0
-HasNoRoom old new = HasNoRoomBefore old.waits old.attempts.caller new.attempts.caller
+HasNoRoom old new = HasNoRoomBefore old.waits (caller_of old) (caller_of new)
 
 -- WHAT A LOOK ANSWERS, and what it leaves
 pub record Looks (old new : Thread) (code : Code) : Type 0 where
@@ -70,8 +71,10 @@ pub record Looks (old new : Thread) (code : Code) : Type 0 where
   pub spent : code ≡ Spent → IsSpentLooking old new
   pub memory : code ≡ Memory → HasNoRoom old new
   pub waits : code ≢ Idle → new.waits ≡ true
+  pub since : new.since ≡ old.since
   pub idle : old.begun ≡ false → code ≡ Idle
   pub still : old.begun ≡ false → new ≡ old
   pub tells : old.begun ≡ true → (code ≡ Done) ⊎ (code ≡ Again) ⊎ (code ≡ Spent) ⊎ (code ≡ Memory)
   pub begun : code ≢ Spent → new.begun ≡ old.begun
   pub over : code ≡ Spent → new.begun ≡ false
+  pub nothing : AddsNothing (caller_of old) (caller_of new)

@@ -1,100 +1,126 @@
 // The calls of a thread's part.
-ghost use Rattle.std.specs.Prelude.{◌≡◌, ◌≢◌, ◌⊎◌, ◌<◌, ◌++◌, List, [], ◌∷◌, length, true, false, None, IfErr, IfOk, IfSome, Ok, OnOk};
+ghost use Rattle.std.specs.Prelude.{◌≡◌, ◌≢◌, ◌⊎◌, [], true, false, None, IfErr, IfSome, Ok};
 ghost use Rattle.std.specs.Arc.{arc_value};
-ghost use Rattle.dstm_attempts.specs.Attempts.{AddsNothing, Begins, BeginsNone, Exchanges, Finds, IsAbandoned, IsClosed, IsQuit, IsSpent, LooksChanged, LooksOnce, LooksSame, LooksSpent, MayBegin, Opens, SetsNothing, StoodTogether, TakesEffect, begun, clock, goes_on};
-ghost use Rattle.dstm_model.specs.declared.value.Val.{Val};
+ghost use Rattle.dstm_attempts.specs.Attempts.{AddsNothing, Begins, BeginsNone, IsClosed, LooksChanged, LooksOnce, LooksSame, LooksSpent, clock, goes_on, is_under_way};
 ghost use Rattle.dstm_tables.specs.Callers.{done, home_of};
-ghost use Rattle.dstm_handles.specs.Threads.{GoesOn, HasNoMark, IsOpen, MayCall, Refuses, RefusesAll, RefusesBy, StopsChange, StopsCommit, StopsLook, StopsUndoing, WasRefused, code_for, starting};
-ghost use Rattle.dstm_handles.specs.Undoing.{IsNoted, Undoes};
-ghost use Rattle.dstm_handles.specs.Waiting.{FindsChange, FindsChangeBefore, FindsNoChange, HasNoRoom, HasNoRoomBefore, IsSpentBefore, IsSpentLooking, LetsGoBefore};
+ghost use Rattle.dstm_handles.specs.Threads.{BeginsOr, Commits, Enters, Gets, GivesUp, HasBegun, HasNoneLeft, IsSame, Marks, MayCall, RefusesBy, Sets, UndoesTo, caller_of, code_for};
+ghost use Rattle.dstm_handles.specs.Waiting.{FindsChangeBefore, HasNoRoomBefore, IsSpentBefore, LetsGoBefore, Looks};
 ghost use Rattle.dstm_attempts.specs.declared.error.Look.TheVariants as look;
-ghost use Rattle.dstm_handles.specs.declared.code.Code.TheVariants.{Again, Done, Idle, Memory, Open, Range, Spent};
-ghost use Rattle.dstm_handles.specs.declared.thread.Undo.{Undo};
+ghost use Rattle.dstm_handles.specs.declared.code.Code.TheVariants.{Again, Done, Idle, Memory, Open, Spent};
 
 use crate::code::Code;
-use crate::thread::{Thread, Undo};
-use dstm_attempts::{Attempts, Look, NotOpened};
+use crate::thread::Thread;
+use dstm_attempts::Look;
+use dstm_cells::{Courtesy, Owned, Turn, Why};
 use dstm_model::{AnyLaw, Law, Val};
 use dstm_tables::{Caller, Table};
-use std::alloc::{AllocError, AllocFailed, Global};
+use std::alloc::{AllocError, Global};
 use std::sync::Arc;
+
+// A transaction that has lost so many attempts takes the turn.
+const MOST_LOST: u32 = 8;
 
 impl Thread {
     /// The part that makes the attempts of a caller of this table.
     pub(crate) fn of(
         alloc: Global,
         table: Arc<Table<AnyLaw>, Global>,
+        turn: Arc<Turn, Global>,
         caller: Caller<AnyLaw>,
     ) -> Thread
         requires home { home_of caller ≡ arc_value table }
         requires closed { IsClosed caller }
         requires none { done caller ≡ [] }
-        ensures caller { result.attempts.caller ≡ caller }
+        ensures caller { caller_of result ≡ caller }
         ensures idle { result.begun ≡ false }
     {
         Thread {
-            table,
-            attempts: Attempts::of(alloc, caller),
+            tx: Owned::of(alloc, table, caller),
             begun: false,
             waits: false,
             since: 0,
-            undos: Vec::new(alloc),
-            notes: false,
+            turn,
+            ticket: None,
+            courtesy: Courtesy::new(),
+        }
+    }
+
+    /// Before an attempt at a transaction that was lost so often. One that was lost often takes the turn of the memory's
+    /// threads; `Again` where another one has it, which is let go first for some time.
+    pub fn enter(&mut self, lost: u32) -> Code
+        ensures { Enters self.old self.new result }
+    {
+        if lost >= MOST_LOST {
+            self.take_turn();
+        }
+        if self.ticket.is_none() && self.turn.is_to_wait(&mut self.courtesy) {
+            return Code::Again;
+        }
+        Code::Done
+    }
+
+    // Takes the turn, or rises where it has it.
+    fn take_turn(&mut self)
+        ensures { IsSame self.old self.new }
+    {
+        self.ticket = match self.ticket {
+            Some(ticket) => Some(self.turn.rise(ticket)),
+            None => self.turn.take(),
+        };
+    }
+
+    // Gives the turn back, where it has it.
+    #[inline]
+    fn end_turn(&mut self)
+        ensures { IsSame self.old self.new }
+    {
+        if let Some(ticket) = self.ticket {
+            self.turn.give_back(ticket);
+            self.ticket = None;
         }
     }
 
     /// Begins a transaction, or the next attempt at one that was lost.
     #[inline(always)]
     pub fn begin(&mut self) -> Code
-        ensures begins { result ≡ Done → Begins ⟦<AnyLaw as Law>⟧.holds (starting self.old) self.new.attempts.caller }
-        ensures may { result ≡ Done → MayCall self.new }
-        ensures since { result ≡ Done → self.new.since ≡ clock self.new.attempts.caller }
-        ensures spent { result ≡ Spent → IsSpent self.new.attempts.caller }
-        ensures over { result ≡ Spent → self.new.begun ≡ false }
-        ensures unnoted { result ≡ Done → HasNoMark self.new }
-        ensures none { result ≡ Spent → begun self.new.attempts.caller ≡ begun (starting self.old) }
-        ensures quit { result ≡ Spent → IsQuit self.new.attempts.caller }
-        ensures stays { result ≡ Open → GoesOn self.old self.new }
-        ensures live { result ≡ Open → IsOpen self.old self.new }
-        ensures tells { (result ≡ Done) ⊎ (result ≡ Spent) ⊎ (result ≡ Open) }
-        ensures under_way { MayCall self.old → goes_on self.old.attempts.caller ≡ true → result ≡ Open }
-        ensures nothing { AddsNothing self.old.attempts.caller self.new.attempts.caller }
+        ensures { BeginsOr ⟦<AnyLaw as Law>⟧.holds self.old self.new result }
     {
         if !self.begun {
-            self.attempts.renew();
+            self.tx.renew_attempts();
             return self.attempt();
         }
-        if !self.waits && self.attempts.is_under_way() {
+        if self.is_open() {
             return Code::Open;
         }
         self.attempt()
     }
 
+    // The attempt of a transaction is under way, which does not wait.
+    #[inline]
+    fn is_open(&self) -> bool
+        ensures waits { result ≡ true → self.now.waits ≡ false }
+        ensures live { result ≡ true → is_under_way (caller_of self.now) ≡ true }
+        ensures over { result ≡ false → MayCall self.now → goes_on (caller_of self.now) ≡ true → ⊥ }
+    {
+        !self.waits && self.tx.is_under_way()
+    }
+
     // Begins an attempt.
     fn attempt(&mut self) -> Code
-        ensures begins { result ≡ Done → Begins ⟦<AnyLaw as Law>⟧.holds self.old.attempts.caller
-            self.new.attempts.caller }
-        ensures may { result ≡ Done → MayCall self.new }
-        ensures since { result ≡ Done → self.new.since ≡ clock self.new.attempts.caller }
-        ensures spent { result ≡ Spent → IsSpent self.new.attempts.caller }
-        ensures over { result ≡ Spent → self.new.begun ≡ false }
-        ensures unnoted { result ≡ Done → HasNoMark self.new }
-        ensures none { result ≡ Spent → begun self.new.attempts.caller ≡ begun self.old.attempts.caller }
-        ensures quit { result ≡ Spent → IsQuit self.new.attempts.caller }
-        ensures one { result ≢ Open }
+        ensures begins { result ≡ Done → HasBegun ⟦<AnyLaw as Law>⟧.holds (caller_of self.old) self.new }
+        ensures spent { result ≡ Spent → HasNoneLeft ⟦<AnyLaw as Law>⟧.holds (caller_of self.old) self.new }
         ensures tells { (result ≡ Done) ⊎ (result ≡ Spent) }
-        ensures nothing { AddsNothing self.old.attempts.caller self.new.attempts.caller }
+        ensures nothing { AddsNothing (caller_of self.old) (caller_of self.new) }
     {
-        self.undos.clear();
-        self.notes = false;
         self.waits = false;
-        match self.attempts.begin(&self.table) {
+        match self.tx.begin_attempt() {
             Ok(()) => {
                 self.begun = true;
-                self.since = self.attempts.clock();
+                self.since = self.tx.clock();
                 Code::Done
             }
             Err(_spent) => {
+                self.end_turn();
                 self.begun = false;
                 Code::Spent
             }
@@ -104,24 +130,12 @@ impl Thread {
     /// What a cell holds.
     #[inline(always)]
     pub fn get(&mut self, cell: u32) -> Result<Val, Code>
-        ensures goes_on { GoesOn self.old self.new }
-        ensures undos { self.new.undos.items ≡ self.old.undos.items }
-        ensures refuses { Refuses self.old cell result }
-        ensures finds { IfOk result (Finds ⟦<AnyLaw as Law>⟧.holds self.old.attempts.caller self.new.attempts.caller
-            cell) }
-        ensures may { OnOk result ((map : List Val) × MayBegin ⟦<AnyLaw as Law>⟧.holds self.new.attempts.caller map) }
-        ensures once { OnOk result (Opens ⟦<AnyLaw as Law>⟧.holds false cell self.old.attempts.caller
-            self.new.attempts.caller) }
-        ensures together { OnOk result (StoodTogether ⟦<AnyLaw as Law>⟧.holds self.new.attempts.caller) }
-        ensures stops { IfErr result (StopsLook ⟦<AnyLaw as Law>⟧.holds cell self.old self.new) }
-        ensures fails { IfErr result (λ why. why ≢ Done) }
-        ensures unset { IfErr result (λ why.
-            SetsNothing ⟦<AnyLaw as Law>⟧.holds self.old.attempts.caller self.new.attempts.caller) }
+        ensures { Gets ⟦<AnyLaw as Law>⟧.holds cell self.old self.new result }
     {
         if let Some(code) = self.refused() {
             return Err(code);
         }
-        match self.attempts.read(&self.table, cell) {
+        match self.tx.read_object(cell) {
             Ok(value) => Ok(value),
             Err(why) => Err(code_of(why)),
         }
@@ -129,41 +143,13 @@ impl Thread {
 
     /// Puts a value into a cell, and answers what it held.
     pub fn set(&mut self, cell: u32, value: Val) -> Result<Val, Code>
-        ensures goes_on { GoesOn self.old self.new }
-        ensures noted { self.old.notes ≡ true → IsNoted ⟦<AnyLaw as Law>⟧.holds self.old self.new }
-        ensures refuses { Refuses self.old cell result }
-        ensures puts { IfOk result (λ had.
-            Exchanges ⟦<AnyLaw as Law>⟧.holds self.old.attempts.caller self.new.attempts.caller cell had value) }
-        ensures may { OnOk result ((map : List Val) × MayBegin ⟦<AnyLaw as Law>⟧.holds self.new.attempts.caller map) }
-        ensures once { OnOk result (Opens ⟦<AnyLaw as Law>⟧.holds true cell self.old.attempts.caller
-            self.new.attempts.caller) }
-        ensures together { OnOk result (StoodTogether ⟦<AnyLaw as Law>⟧.holds self.new.attempts.caller) }
-        ensures notes { IfOk result (λ had. self.old.notes ≡ true
-            → self.new.undos.items ≡ self.old.undos.items ++ (record { object = cell; value = had } ∷ [])) }
-        ensures unnoted { self.old.notes ≡ false → self.new.undos.items ≡ self.old.undos.items }
-        ensures undos { IfErr result (λ why. self.new.undos.items ≡ self.old.undos.items) }
-        ensures stops { IfErr result (StopsChange ⟦<AnyLaw as Law>⟧.holds cell self.old self.new) }
-        ensures fails { IfErr result (λ why. why ≢ Done) }
-        ensures unset { IfErr result (λ why.
-            SetsNothing ⟦<AnyLaw as Law>⟧.holds self.old.attempts.caller self.new.attempts.caller) }
+        ensures { Sets ⟦<AnyLaw as Law>⟧.holds cell value self.old self.new result }
     {
         if let Some(code) = self.refused() {
             return Err(code);
         }
-        match self.attempts.write(&self.table, cell) {
-            Ok(had) => {
-                let undo = Undo {
-                    object: cell,
-                    value: had,
-                };
-                match note_undo(&mut self.undos, self.notes, undo) {
-                    Ok(()) => {
-                        self.attempts.set(&self.table, cell, value);
-                        Ok(had)
-                    }
-                    Err(_failed) => Err(Code::Memory),
-                }
-            }
+        match self.tx.set_object(cell, value) {
+            Ok(had) => Ok(had),
             Err(why) => Err(code_of(why)),
         }
     }
@@ -171,19 +157,13 @@ impl Thread {
     /// Commits the transaction.
     #[inline(always)]
     pub fn commit(&mut self) -> Code
-        ensures takes { result ≡ Done → TakesEffect ⟦<AnyLaw as Law>⟧.holds self.old.attempts.caller
-            self.new.attempts.caller }
-        ensures over { result ≡ Done → self.new.begun ≡ false }
-        ensures home { home_of self.new.attempts.caller ≡ home_of self.old.attempts.caller }
-        ensures nothing { result ≢ Done → AddsNothing self.old.attempts.caller self.new.attempts.caller }
-        ensures goes_on { result ≢ Done → GoesOn self.old self.new }
-        ensures stops { result ≢ Done → StopsCommit ⟦<AnyLaw as Law>⟧.holds self.old self.new result }
-        ensures refuses { RefusesBy self.old (λ code. result ≡ code) }
+        ensures { Commits ⟦<AnyLaw as Law>⟧.holds self.old self.new result }
     {
         if let Some(code) = self.refused() {
             return code;
         }
-        if self.attempts.commit(&self.table) {
+        if self.tx.commit_attempt() {
+            self.end_turn();
             self.begun = false;
             return Code::Done;
         }
@@ -192,18 +172,13 @@ impl Thread {
 
     /// Gives the transaction up: nobody sees what it has set.
     pub fn abort(&mut self) -> Code
-        ensures leaves { self.old.begun ≡ true → IsAbandoned ⟦<AnyLaw as Law>⟧.holds self.old.attempts.caller
-            self.new.attempts.caller }
-        ensures still { self.old.begun ≡ false → self.new ≡ self.old }
-        ensures nothing { AddsNothing self.old.attempts.caller self.new.attempts.caller }
-        ensures over { self.new.begun ≡ false }
-        ensures idle { self.old.begun ≡ false → result ≡ Idle }
-        ensures done { self.old.begun ≡ true → result ≡ Done }
+        ensures { GivesUp ⟦<AnyLaw as Law>⟧.holds self.old self.new result }
     {
         if !self.begun {
             return Code::Idle;
         }
-        self.attempts.abandon(&self.table);
+        self.tx.abandon();
+        self.end_turn();
         self.begun = false;
         Code::Done
     }
@@ -212,19 +187,7 @@ impl Thread {
     /// `Again` where something has. At its first look a transaction lets go of what it has set, and from then on it can
     /// only look, begin again, or be given up.
     pub fn look(&mut self) -> Code
-        ensures same { result ≡ Done → FindsNoChange self.old self.new }
-        ensures changed { result ≡ Again → FindsChange self.old self.new }
-        ensures spent { result ≡ Spent → IsSpentLooking self.old self.new }
-        ensures memory { result ≡ Memory → HasNoRoom self.old self.new }
-        ensures waits { result ≢ Idle → self.new.waits ≡ true }
-        ensures since { self.new.since ≡ self.old.since }
-        ensures idle { self.old.begun ≡ false → result ≡ Idle }
-        ensures still { self.old.begun ≡ false → self.new ≡ self.old }
-        ensures tells { self.old.begun ≡ true → (result ≡ Done) ⊎ (result ≡ Again) ⊎ (result ≡ Spent)
-            ⊎ (result ≡ Memory) }
-        ensures begun { result ≢ Spent → self.new.begun ≡ self.old.begun }
-        ensures over { result ≡ Spent → self.new.begun ≡ false }
-        ensures nothing { AddsNothing self.old.attempts.caller self.new.attempts.caller }
+        ensures { Looks self.old self.new result }
     {
         if !self.begun {
             return Code::Idle;
@@ -243,44 +206,45 @@ impl Thread {
     // Lets go of what the transaction has set, where it has not looked yet.
     fn let_go(&mut self) -> Result<Look, AllocError>
         ensures same { result ≡ Ok look.Same → LetsGoBefore self.old.waits
-            self.old.attempts.caller self.new.attempts.caller }
-        ensures changed { result ≡ Ok look.Changed → FindsChangeBefore self.old.waits self.old.attempts.caller
-            self.new.attempts.caller }
-        ensures spent { result ≡ Ok look.Spent → IsSpentBefore self.old.waits self.old.attempts.caller
-            self.new.attempts.caller }
-        ensures memory { IfErr result (λ _. HasNoRoomBefore self.old.waits self.old.attempts.caller
-            self.new.attempts.caller) }
+            (caller_of self.old) (caller_of self.new) }
+        ensures changed { result ≡ Ok look.Changed → FindsChangeBefore self.old.waits (caller_of self.old)
+            (caller_of self.new) }
+        ensures spent { result ≡ Ok look.Spent → IsSpentBefore self.old.waits (caller_of self.old)
+            (caller_of self.new) }
+        ensures memory { IfErr result (λ _. HasNoRoomBefore self.old.waits (caller_of self.old)
+            (caller_of self.new)) }
         ensures waits { self.new.waits ≡ true }
         ensures since { self.new.since ≡ self.old.since }
         ensures begun { self.new.begun ≡ self.old.begun }
-        ensures nothing { AddsNothing self.old.attempts.caller self.new.attempts.caller }
+        ensures nothing { AddsNothing (caller_of self.old) (caller_of self.new) }
     {
         if self.waits {
             return Ok(Look::Same);
         }
         self.waits = true;
-        self.attempts.let_go(&self.table)
+        self.end_turn();
+        self.tx.let_go()
     }
 
     // One look, where the transaction holds nothing that others meet.
     fn look_on(&mut self) -> Code
-        ensures same { result ≡ Done → LooksSame self.old.since self.old.attempts.caller self.new.attempts.caller }
+        ensures same { result ≡ Done → LooksSame self.old.since (caller_of self.old) (caller_of self.new) }
         ensures changed { result ≡ Again → LooksChanged ⟦<AnyLaw as Law>⟧.holds self.old.since
-            self.old.attempts.caller self.new.attempts.caller }
-        ensures spent { result ≡ Spent → LooksSpent self.old.attempts.caller self.new.attempts.caller }
-        ensures once { (result ≡ Done) ⊎ (result ≡ Again) → LooksOnce ⟦<AnyLaw as Law>⟧.holds self.old.attempts.caller
-            self.new.attempts.caller }
-        ensures unbegun { result ≡ Spent → BeginsNone ⟦<AnyLaw as Law>⟧.holds self.old.attempts.caller
-            self.new.attempts.caller }
+            (caller_of self.old) (caller_of self.new) }
+        ensures spent { result ≡ Spent → LooksSpent (caller_of self.old) (caller_of self.new) }
+        ensures once { (result ≡ Done) ⊎ (result ≡ Again) → LooksOnce ⟦<AnyLaw as Law>⟧.holds (caller_of self.old)
+            (caller_of self.new) }
+        ensures unbegun { result ≡ Spent → BeginsNone ⟦<AnyLaw as Law>⟧.holds (caller_of self.old)
+            (caller_of self.new) }
         ensures only { (result ≢ Memory) × (result ≢ Idle) }
         ensures tells { (result ≡ Done) ⊎ (result ≡ Again) ⊎ (result ≡ Spent) }
         ensures begun { result ≢ Spent → self.new.begun ≡ self.old.begun }
         ensures over { result ≡ Spent → self.new.begun ≡ false }
         ensures waits { self.new.waits ≡ self.old.waits }
         ensures since { self.new.since ≡ self.old.since }
-        ensures nothing { AddsNothing self.old.attempts.caller self.new.attempts.caller }
+        ensures nothing { AddsNothing (caller_of self.old) (caller_of self.new) }
     {
-        match self.attempts.look(&self.table, self.since) {
+        match self.tx.look(self.since) {
             Look::Same => Code::Done,
             Look::Changed => Code::Again,
             Look::Spent => {
@@ -292,49 +256,29 @@ impl Thread {
 
     /// Marks what the transaction has set, so that what it sets from here on can be undone.
     pub fn mark(&mut self) -> Result<u64, Code>
-        ensures marks { IfOk result (λ mark. mark ≡ length self.old.undos.items) }
-        ensures notes { OnOk result (self.new.notes ≡ true) }
-        ensures same { self.new.attempts.caller ≡ self.old.attempts.caller }
-        ensures undos { self.new.undos.items ≡ self.old.undos.items }
-        ensures goes_on { OnOk result (self.new ≡ record self.old { notes = true }) }
-        ensures stops { IfErr result (λ why. WasRefused self.old self.new) }
-        ensures refuses { RefusesAll self.old result }
-        ensures fails { IfErr result (λ why. why ≢ Done) }
+        ensures { Marks self.old self.new result }
     {
         if let Some(code) = self.refused() {
             return Err(code);
         }
-        self.notes = true;
-        Ok(self.undos.len() as u64)
+        self.tx.note_settings();
+        Ok(self.tx.count_noted() as u64)
     }
 
     /// Undoes what was set since a mark, the last one first. What was read stays read.
     pub fn undo_to(&mut self, mark: u64) -> Code
-        ensures goes_on { GoesOn self.old self.new }
-        ensures undone { result ≡ Done → (first added : List Undo) → self.old.undos.items ≡ first ++ added
-            → length first ≡ mark → Undoes ⟦<AnyLaw as Law>⟧.holds first added [] self.old self.new }
-        ensures left { (first added : List Undo) → self.old.undos.items ≡ first ++ added → length first ≡ mark
-            → (left : List Undo) × Undoes ⟦<AnyLaw as Law>⟧.holds first added left self.old self.new }
-        ensures stops { result ≢ Done → StopsUndoing ⟦<AnyLaw as Law>⟧.holds mark self.old self.new result }
-        ensures range { MayCall self.old → length self.old.undos.items < mark → result ≡ Range }
-        ensures refuses { RefusesBy self.old (λ code. result ≡ code) }
+        ensures { UndoesTo ⟦<AnyLaw as Law>⟧.holds mark self.old self.new result }
     {
         if let Some(code) = self.refused() {
             return code;
         }
-        if mark > self.undos.len() as u64 {
+        if mark > self.tx.count_noted() as u64 {
             return Code::Range;
         }
-        while self.undos.len() as u64 > mark {
-            let last = self.undos.len() - 1;
-            let undo = self.undos[last];
-            match self.attempts.write(&self.table, undo.object) {
-                Ok(_had) => self.attempts.set(&self.table, undo.object, undo.value),
-                Err(why) => return code_of(why),
-            }
-            self.undos.truncate(last);
+        match self.tx.set_back_to(mark as usize) {
+            Ok(()) => Code::Done,
+            Err(why) => code_of(why),
         }
-        Code::Done
     }
 
     // Why a call on a transaction does nothing, if it does.
@@ -355,27 +299,16 @@ impl Thread {
     }
 }
 
-// Why a cell was not opened.
+// Why a call on the transaction has stopped.
 #[inline]
-fn code_of(why: NotOpened) -> Code
+fn code_of(why: Why) -> Code
     ensures code { result ≡ code_for why }
     ensures not_done { result ≢ Done }
 {
     match why {
-        NotOpened::Over => Code::Again,
-        NotOpened::Foreign => Code::Foreign,
+        Why::Again => Code::Again,
+        Why::Retry => Code::Again,
+        Why::Foreign => Code::Foreign,
+        Why::Memory => Code::Memory,
     }
-}
-
-// Notes what a cell held, where there is a mark.
-#[inline]
-fn note_undo(undos: &mut Vec<Undo>, notes: bool, undo: Undo) -> Result<(), AllocFailed<Undo>>
-    ensures noted { OnOk result (notes ≡ true → undos.new.items ≡ undos.old.items ++ (undo ∷ [])) }
-    ensures unnoted { OnOk result (notes ≡ false → undos.new.items ≡ undos.old.items) }
-    ensures failed { IfErr result (λ why. (notes ≡ true) × (undos.new.items ≡ undos.old.items)) }
-{
-    if !notes {
-        return Ok(());
-    }
-    undos.push(undo)
 }

@@ -9,14 +9,15 @@ ghost use Rattle.dstm_tables.specs.Engines.{WorksBy};
 ghost use Rattle.dstm_tables.specs.Founders.{Enrols, founded};
 ghost use Rattle.dstm_tables.specs.Tables.{objects_there};
 ghost use Rattle.dstm_tables.specs.declared.tables.Caller.{Caller};
-ghost use Rattle.dstm_handles.specs.Memories.{EnrolsAtHome, EnrolsFirst, Gives, GivesAtHome, GivesPart, Grows, HasSettled, IsAt, IsWithheld, KeepsCells, KeepsTerms, ReadsAll, StartsWith, StaysOut, table_at};
-ghost use Rattle.dstm_handles.specs.Threads.{MayCall};
+ghost use Rattle.dstm_handles.specs.Memories.{EnrolsAtHome, EnrolsFirst, GivesAtHome, GivesOut, HasSettled, IsAt, IsWithheld, KeepsTerms, MakesCell, MakesMemory, Peeks, ReadsAll, StartsWith, StaysOut, table_at};
+ghost use Rattle.dstm_handles.specs.Threads.{MayCall, caller_of};
 ghost use Rattle.dstm_handles.specs.declared.code.Code.TheVariants.{Again, Done, Foreign, Full, Range, Spent};
 ghost use Rattle.dstm_handles.specs.declared.code.Code.TheVariants as code;
 
 use crate::code::Code;
 use crate::memory::{Home, Memory};
 use crate::thread::Thread;
+use dstm_cells::Turn;
 use dstm_model::{AnyLaw, Law, Val};
 use dstm_tables::{Engine, EnrolError, MOST_OBJECTS, make};
 use std::alloc::{AllocError, Global};
@@ -37,11 +38,7 @@ const CALLERS: u32 = 64;
 impl Memory {
     /// A memory with no cell, in which so many threads, from 1 to 63, may have parts at once.
     pub fn new(alloc: Global, threads: u32, engine: Engine) -> Result<Memory, Code>
-        ensures empty { IfOk result (λ memory. (memory.values.items ≡ []) × (memory.home ≡ None)) }
-        ensures by { IfOk result (λ memory. (memory.engine ≡ engine) × (memory.threads ≡ threads)) }
-        ensures range { OnOk result ((1 ≤ threads) × (threads ≤ 63)) }
-        ensures refused { result ≡ Err Range ↔ ((threads ≡ 0) ⊎ (63 < threads)) }
-        ensures fails { IfErr result (λ why. why ≡ Range) }
+        ensures { MakesMemory threads engine result }
     {
         if threads == 0 || threads > MOST_THREADS {
             return Err(Code::Range);
@@ -58,13 +55,7 @@ impl Memory {
 
     /// A new cell. No thread may have a part then.
     pub fn cell(&mut self, value: Val) -> Result<u32, Code>
-        ensures made { IfOk result (Grows ⟦<AnyLaw as Law>⟧.holds self.old self.new value) }
-        ensures full { result ≡ Err Full → length self.new.values.items ≡ 524288 }
-        ensures why { IfErr result (λ why. IsWithheld why ⊎ (why ≡ Full)) }
-        ensures home { OnOk result (self.new.home ≡ None) }
-        ensures kept { IfErr result (λ why. KeepsCells ⟦<AnyLaw as Law>⟧.holds self.old self.new) }
-        ensures terms { KeepsTerms self.old self.new }
-        ensures fails { IfErr result (λ why. why ≢ Done) }
+        ensures { MakesCell ⟦<AnyLaw as Law>⟧.holds value self.old self.new result }
     {
         self.settle()?;
         if self.values.len() >= MOST_CELLS as usize {
@@ -79,15 +70,7 @@ impl Memory {
 
     /// What a cell holds, while no thread has a part.
     pub fn peek(&mut self, cell: u32) -> Result<Val, Code>
-        ensures settled { OnOk result (HasSettled ⟦<AnyLaw as Law>⟧.holds self.old self.new.values.items) }
-        ensures exists { OnOk result (cell < length self.new.values.items) }
-        ensures value { IfOk result (λ value. value ≡ value_at self.new.values.items cell) }
-        ensures foreign { result ≡ Err Foreign → length self.new.values.items ≤ cell }
-        ensures why { IfErr result (λ why. IsWithheld why ⊎ (why ≡ Foreign)) }
-        ensures home { OnOk result (self.new.home ≡ None) }
-        ensures kept { IfErr result (λ why. KeepsCells ⟦<AnyLaw as Law>⟧.holds self.old self.new) }
-        ensures terms { KeepsTerms self.old self.new }
-        ensures fails { IfErr result (λ why. why ≢ Done) }
+        ensures { Peeks ⟦<AnyLaw as Law>⟧.holds cell self.old self.new result }
     {
         self.settle()?;
         match self.values.get(cell as usize) {
@@ -99,12 +82,7 @@ impl Memory {
     /// A part for a thread. Where all parts are back, and the table has fewer left to give out than threads may have at
     /// once, there is a new table.
     pub fn thread(&mut self) -> Result<Thread, Code>
-        ensures gives { IfOk result (GivesPart ⟦<AnyLaw as Law>⟧.holds self.old) }
-        ensures leaves { IfOk result (Gives ⟦<AnyLaw as Law>⟧.holds self.old self.new) }
-        ensures kept { IfErr result (λ why. KeepsCells ⟦<AnyLaw as Law>⟧.holds self.old self.new) }
-        ensures terms { KeepsTerms self.old self.new }
-        ensures idle { IfOk result (λ part. part.begun ≡ false) }
-        ensures fails { IfErr result (λ why. why ≢ Done) }
+        ensures { GivesOut ⟦<AnyLaw as Law>⟧.holds self.old self.new result }
     {
         match self.given() {
             Err(Code::Full) => {}
@@ -144,13 +122,13 @@ impl Memory {
 
     // A part of the table that is there, if one is.
     fn given(&mut self) -> Result<Thread, Code>
-        ensures table { IfOk result (λ part. IsAt self.old.home (home_of part.attempts.caller)) }
+        ensures table { IfOk result (λ part. IsAt self.old.home (home_of (caller_of part))) }
         ensures idle { IfOk result (λ part. part.begun ≡ false) }
-        ensures fails { IfErr result (λ why. why ≢ Done) }
+        ensures fails { IfErr result (λ why. (why ≡ Full) ⊎ (why ≡ code.Memory)) }
         ensures same { (values : List Val) → HasSettled ⟦<AnyLaw as Law>⟧.holds self.new values
             → HasSettled ⟦<AnyLaw as Law>⟧.holds self.old values }
         ensures values { self.new.values.items ≡ self.old.values.items }
-        ensures at { IfOk result (λ part. IsAt self.new.home (home_of part.attempts.caller)) }
+        ensures at { IfOk result (λ part. IsAt self.new.home (home_of (caller_of part))) }
         ensures home { OnOk result (GivesAtHome self.old.home self.new.home) }
         ensures seeds { OnOk result (self.new.seeds ≡ (self.old.seeds + 1) % 2 ^ 64) }
         ensures unsown { IfErr result (λ why. self.new.seeds ≡ self.old.seeds) }
@@ -180,16 +158,16 @@ impl Memory {
 
     // A part of a new table.
     fn begun(&mut self) -> Result<Thread, Code>
-        ensures starts { IfOk result (λ part. StartsWith self.old.values.items (home_of part.attempts.caller)) }
-        ensures works { IfOk result (λ part. WorksBy self.old.engine (home_of part.attempts.caller)) }
-        ensures at { IfOk result (λ part. IsAt self.new.home (home_of part.attempts.caller)) }
+        ensures starts { IfOk result (λ part. StartsWith self.old.values.items (home_of (caller_of part))) }
+        ensures works { IfOk result (λ part. WorksBy self.old.engine (home_of (caller_of part))) }
+        ensures at { IfOk result (λ part. IsAt self.new.home (home_of (caller_of part))) }
         ensures seeds { OnOk result (self.new.seeds ≡ (self.old.seeds + 1) % 2 ^ 64) }
         ensures enrols { IfOk result (EnrolsFirst ⟦<AnyLaw as Law>⟧.holds self.new.home self.new.seeds) }
         ensures values { self.new.values.items ≡ self.old.values.items }
         ensures kept { IfErr result (λ why. self.new.home ≡ self.old.home) }
         ensures terms { KeepsTerms self.old self.new }
         ensures idle { IfOk result (λ part. part.begun ≡ false) }
-        ensures fails { IfErr result (λ why. why ≢ Done) }
+        ensures fails { IfErr result (λ why. (why ≡ Full) ⊎ (why ≡ code.Memory)) }
     {
         let seed = self.seeds.wrapping_add(1);
         let mut home = self.found()?;
@@ -204,8 +182,8 @@ impl Memory {
         ensures starts { IfOk result (λ home. StartsWith self.now.values.items (table_at home)) }
         ensures works { IfOk result (λ home. WorksBy self.now.engine (table_at home)) }
         ensures own { IfOk result (λ home. Enrols ⟦<AnyLaw as Law>⟧.holds (founded (table_at home)) home.founder 0
-            home.last.attempts.caller) }
-        ensures fails { IfErr result (λ why. why ≢ Done) }
+            (caller_of home.last)) }
+        ensures fails { IfErr result (λ why. why ≡ code.Memory) }
     {
         let Ok(start) = Vec::from_slice(self.alloc, &self.values) else {
             return Err(Code::Memory);
@@ -223,10 +201,17 @@ impl Memory {
         let Ok(shared) = Arc::try_clone(&table) else {
             return Err(Code::Memory);
         };
+        let Ok(turn) = Arc::new(self.alloc, Turn::new()) else {
+            return Err(Code::Memory);
+        };
+        let Ok(own) = Arc::try_clone(&turn) else {
+            return Err(Code::Memory);
+        };
         Ok(Home {
             table,
+            turn,
             founder,
-            last: Thread::of(self.alloc, shared, caller),
+            last: Thread::of(self.alloc, shared, own, caller),
             given: 0,
         })
     }
@@ -242,19 +227,22 @@ impl Home {
         ensures table { table_at self.new ≡ table_at self.old }
         ensures own { self.new.last ≡ self.old.last }
         ensures same { IfErr result (λ why. self.new ≡ self.old) }
-        ensures part { IfOk result (λ part. home_of part.attempts.caller ≡ table_at self.old) }
+        ensures part { IfOk result (λ part. home_of (caller_of part) ≡ table_at self.old) }
         ensures enrols { IfOk result (λ part. Enrols ⟦<AnyLaw as Law>⟧.holds self.old.founder self.new.founder seed
-            part.attempts.caller) }
+            (caller_of part)) }
         ensures idle { IfOk result (λ part. part.begun ≡ false) }
-        ensures fails { IfErr result (λ why. why ≢ Done) }
+        ensures fails { IfErr result (λ why. (why ≡ Full) ⊎ (why ≡ code.Memory)) }
     {
         let Ok(table) = Arc::try_clone(&self.table) else {
+            return Err(Code::Memory);
+        };
+        let Ok(turn) = Arc::try_clone(&self.turn) else {
             return Err(Code::Memory);
         };
         match self.founder.caller(alloc, &self.table, seed) {
             Ok(caller) => {
                 self.given = self.given.saturating_add(1);
-                Ok(Thread::of(alloc, table, caller))
+                Ok(Thread::of(alloc, table, turn, caller))
             }
             Err(EnrolError::Memory(_)) => Err(Code::Memory),
             Err(EnrolError::Full) => Err(Code::Full),
@@ -267,10 +255,10 @@ impl Home {
         ensures table { table_at self.new ≡ table_at self.old }
         ensures founder { self.new.founder ≡ self.old.founder }
         ensures nothing { IfErr result (λ why. AddsNothing
-            self.old.last.attempts.caller self.new.last.attempts.caller) }
+            (caller_of self.old.last) (caller_of self.new.last)) }
         ensures size { IfOk result (λ values. length values.items ≡ cells) }
         ensures reads { IfOk result (λ values.
-            ReadsAll ⟦<AnyLaw as Law>⟧.holds self.old.last.attempts.caller values.items) }
+            ReadsAll ⟦<AnyLaw as Law>⟧.holds (caller_of self.old.last) values.items) }
         ensures fails { IfErr result (λ why. IsWithheld why) }
     {
         for _reading in 0..READINGS {
@@ -298,12 +286,12 @@ fn callers_by(engine: Engine, threads: u32) -> u32
 // The values of so many cells, by one attempt.
 fn reading(alloc: Global, last: &mut Thread, cells: u32) -> Result<Vec<Val>, Code>
     requires idle { last.old.begun ≡ false }
-    requires all { cells ≡ objects_of last.old.attempts.caller }
-    ensures home { home_of last.new.attempts.caller ≡ home_of last.old.attempts.caller }
+    requires all { cells ≡ objects_of (caller_of last.old) }
+    ensures home { home_of (caller_of last.new) ≡ home_of (caller_of last.old) }
     ensures size { IfOk result (λ values. length values.items ≡ cells) }
-    ensures reads { IfOk result (λ values. (k : Caller AnyLawValue) → AddsNothing k last.old.attempts.caller
+    ensures reads { IfOk result (λ values. (k : Caller AnyLawValue) → AddsNothing k (caller_of last.old)
         → ReadsAll ⟦<AnyLaw as Law>⟧.holds k values.items) }
-    ensures nothing { IfErr result (λ why. AddsNothing last.old.attempts.caller last.new.attempts.caller) }
+    ensures nothing { IfErr result (λ why. AddsNothing (caller_of last.old) (caller_of last.new)) }
     ensures fails { IfErr result (λ why. (why ≡ Again) ⊎ (why ≡ code.Memory) ⊎ (why ≡ Spent)) }
 {
     match last.begin() {
@@ -319,14 +307,14 @@ fn reading(alloc: Global, last: &mut Thread, cells: u32) -> Result<Vec<Val>, Cod
 
 // The values of so many cells, by a transaction that has set nothing.
 fn all(alloc: Global, last: &mut Thread, cells: u32) -> Result<Vec<Val>, Code>
-    requires all { cells ≡ objects_of last.old.attempts.caller }
-    requires untouched { IsUntouched last.old.attempts.caller }
+    requires all { cells ≡ objects_of (caller_of last.old) }
+    requires untouched { IsUntouched (caller_of last.old) }
     requires may { MayCall last.old }
-    ensures keeps { Keeps last.old.attempts.caller last.new.attempts.caller }
+    ensures keeps { Keeps (caller_of last.old) (caller_of last.new) }
     ensures size { IfOk result (λ values. length values.items ≡ cells) }
     ensures reads { IfOk result (λ values. (map : List Val) → MayBegin ⟦<AnyLaw as Law>⟧.holds
-        last.new.attempts.caller map → map ≡ values.items) }
-    ensures untouched { OnOk result (IsUntouched last.new.attempts.caller) }
+        (caller_of last.new) map → map ≡ values.items) }
+    ensures untouched { OnOk result (IsUntouched (caller_of last.new)) }
     ensures may { MayCall last.new }
     ensures fails { IfErr result (λ why. (why ≡ Again) ⊎ (why ≡ code.Memory)) }
 {

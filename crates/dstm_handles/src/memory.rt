@@ -7,6 +7,7 @@ ghost use Rattle.dstm_tables.specs.Founders.{home_there};
 ghost use Rattle.dstm_tables.specs.Tables.{objects_there};
 
 use crate::thread::Thread;
+use dstm_cells::Turn;
 use dstm_model::{AnyLaw, Val};
 use dstm_tables::{Engine, Founder, Table};
 use std::alloc::Global;
@@ -30,11 +31,13 @@ pub struct Memory {
 #[derive(Drop)]
 pub struct Home {
     pub(crate) table: Arc<Table<AnyLaw>, Global>,
+    // The turn of the threads that have parts.
+    pub(crate) turn: Arc<Turn, Global>,
     pub(crate) founder: Founder<AnyLaw>,
     // The memory's own part, which reads all cells when no thread has one.
     pub(crate) last: Thread,
     // How many parts it has given out.
     pub(crate) given: u32,
     ghost founded: { home_there founder ≡ arc_value table },
-    ghost own: { home_of last.attempts.caller ≡ arc_value table },
+    ghost own: { home_of last.tx.attempts.caller ≡ arc_value table },
 }

@@ -10,8 +10,8 @@ use Rattle.dstm_handles.proofs.cells.all.Given as goal
 abbrev pub invariant-loop-cell : goal.invariant-loop-cell
 invariant-loop-cell l =
     (length l.values.items ≡ l.cell)
-    × Keeps l.fn.last.attempts.caller l.last.attempts.caller
-    × IsUntouched l.last.attempts.caller
+    × Keeps l.fn.last.tx.attempts.caller l.last.tx.attempts.caller
+    × IsUntouched l.last.tx.attempts.caller
     × MayCall l.last
-    × ((map : List Val) → MayBegin (TheLaw.holds-value).it l.last.attempts.caller map →
+    × ((map : List Val) → MayBegin (TheLaw.holds-value).it l.last.tx.attempts.caller map →
     (o : ℕ) → o < l.cell → value_at l.values.items o ≡ value_at map o)

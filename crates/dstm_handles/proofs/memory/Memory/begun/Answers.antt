@@ -17,8 +17,8 @@ returns-clause-enrols c =
     let home = c.in_ok-home.home in
     let new = c.part.new.self in (
       home.founder,
-      subst (λ (table : Table AnyLaw). Enrols holds (founded table) home.founder 0 new.last.attempts.caller) (sym c.part.ensures.table)
-          (subst (λ (last : Thread). Enrols holds (founded (table_at home)) home.founder 0 last.attempts.caller) (sym c.part.ensures.own)
+      subst (λ (table : Table AnyLaw). Enrols holds (founded table) home.founder 0 new.last.tx.attempts.caller) (sym c.part.ensures.table)
+          (subst (λ (last : Thread). Enrols holds (founded (table_at home)) home.founder 0 last.tx.attempts.caller) (sym c.part.ensures.own)
           c.in_ok-home.ensures.own),
       c.in_ok-part.ensures.enrols,
     )
