@@ -42,7 +42,7 @@ extern "C" {
 #endif
 
 /* The version of this header: 10,000 for each version, 100 for each addition to it, 1 for each mending. */
-#define DSTM_VERSION 10000
+#define DSTM_VERSION 10100
 
 typedef enum dstm_code {
     DSTM_OK = 0,

@@ -19,7 +19,7 @@ use std::alloc::Global;
 use std::mem;
 
 // What `dstmc_version` answers: 10,000 for each version, 100 for each addition to it, and 1 for each mending.
-const VERSION: u32 = 10_000;
+const VERSION: u32 = 10_100;
 
 // The number of a code.
 fn number(code: Code) -> u32
@@ -121,7 +121,7 @@ fn part_of(alloc: Global, memory: &mut Held) -> Result<Box<Held>, Code>
 /// Which version the library is.
 #[unsafe(no_mangle)]
 pub extern "C" fn dstmc_version() -> u32
-    ensures { result ≡ 10000 }
+    ensures { result ≡ 10100 }
 {
     VERSION
 }
