@@ -45,7 +45,10 @@ def numbers(words, settings=None, source=None):
     if done.returncode:
         raise RuntimeError(f"{' '.join(map(str, words))}: {done.stderr.strip()}")
     fields = done.stdout.split()
-    return float(fields[0]) if len(fields) == 1 else dict(zip(fields[::2], map(int, fields[1::2])))
+    try:
+        return float(fields[0]) if len(fields) == 1 else dict(zip(fields[::2], map(int, fields[1::2])))
+    except ValueError:
+        raise RuntimeError(f"{' '.join(map(str, words))} tells: {done.stdout.splitlines()[0]}") from None
 
 
 def store_programs(given, folder, prototypes, load, threads):
@@ -103,7 +106,8 @@ def times_of(runs, rounds, seconds):
             return times, done
         for at in rng.sample(list(runs), len(runs)):
             try:
-                times.setdefault(at, []).append(runs[at]())
+                took = runs[at]()
+                times.setdefault(at, []).append(took)
             except RuntimeError as error:
                 print(f"# {error}", flush=True)
     return times, rounds
@@ -113,9 +117,10 @@ def tell_gains(least):
     """How many times as fast as one thread those are that only compute."""
     for kind, what in COMPUTING.items():
         alone = least.get((kind, "1", "compute"))
-        gains = [(threads, alone / least[kind, threads, "compute"]) for threads in THREADS[1:] if (kind, threads, "compute") in least]
-        if alone and gains:
-            print(f"threads that only compute, {what}: " + ", ".join(f"{gain:.2f} times on {threads}" for threads, gain in gains))
+        others = [(threads, least.get((kind, threads, "compute"))) for threads in THREADS[1:]]
+        gains = [f"{alone / took:.2f} times on {threads}" for threads, took in others if alone and took]
+        if gains:
+            print(f"threads that only compute, {what}: " + ", ".join(gains))
 
 
 def table(title, kinds, names, least):

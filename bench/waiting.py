@@ -1,6 +1,7 @@
 #!/usr/bin/env python3
-"""Runs the queue and the philosophers of example_waiting many times by each engine and manager, on an idle machine or beside busy
-processes, and tells how they ended; beside them a queue under a mutex and condition variables, and one by GHC's stm; see README.md."""
+"""Runs the queue and the philosophers of example_waiting many times by each engine and manager, on an idle machine or beside
+busy processes, and tells how they ended; beside them a queue under a mutex and condition variables, and one by GHC's stm; see
+README.md."""
 import argparse
 import os
 import shutil
@@ -61,8 +62,8 @@ def run(words, wanted, processors, limit):
         done = subprocess.run(list(map(str, words)), capture_output=True, text=True, timeout=limit, **on(processors))
     except subprocess.TimeoutExpired:
         return f"not ended in {limit:.0f} s", 1e3 * limit
-    told = (done.stdout or done.stderr).strip()
-    return "Ok" if told == wanted and not done.returncode else told or f"status {done.returncode}", 1e3 * (time.monotonic() - begun)
+    took, told = 1e3 * (time.monotonic() - begun), (done.stdout or done.stderr).strip()
+    return "Ok" if told == wanted and not done.returncode else told or f"status {done.returncode}", took
 
 
 def cases_of(given, peers):

@@ -1,5 +1,5 @@
--- Queue ROUNDS: what example_waiting's queue does, by GHC's stm: two threads pass the numbers from 1 to ROUNDS each to two others,
--- through eight places, and these add them up.
+-- Queue ROUNDS: what example_waiting's queue does, by GHC's stm: two threads pass the numbers from 1 to ROUNDS each to two
+-- others, through eight places, and these add them up.
 module Main where
 import Control.Concurrent
 import Control.Concurrent.STM
