@@ -1,13 +1,10 @@
 // How a transaction that was lost comes again.
 use crate::error::{Stop, Why};
-use crate::turn::{Courtesy, Ticket, Turn};
+use crate::turn::{Courtesy, MOST_LOST, Ticket, Turn};
 use std::thread::yield_now;
 
 // A transaction gives way after each attempt that was lost, twice as often as before, and at most 64 times.
 const MOST_DOUBLINGS: u32 = 6;
-
-// One that has lost so many attempts takes the turn.
-const MOST_LOST: u32 = 8;
 
 /// How the transactions of a thread come again behind attempts that were lost: they give way, and one that was lost often
 /// takes the turn. Nothing is promised of it but that each call returns.
@@ -47,10 +44,7 @@ impl<'a> BackOff<'a> {
     #[cold]
     fn take_or_wait(&mut self, turn: &Turn) {
         if self.lost >= MOST_LOST {
-            self.ticket = match self.ticket {
-                Some(ticket) => Some(turn.rise(ticket)),
-                None => turn.take(),
-            };
+            self.ticket = turn.go_first(self.ticket);
         }
         if self.ticket.is_none() {
             turn.let_first(&mut self.courtesy);

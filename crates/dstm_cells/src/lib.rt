@@ -24,7 +24,7 @@ pub use holds::Holds;
 pub use memory::{MOST_CELLS, MOST_THREADS, Memory};
 pub use owned::Owned;
 pub use thread::{Me, Part};
-pub use turn::{Courtesy, Ticket, Turn};
+pub use turn::{Courtesy, MOST_LOST, Ticket, Turn};
 pub use tx::{ensure, retry};
 pub use under_way::{Attempt, Tx, Undo};
 pub use work::Work;

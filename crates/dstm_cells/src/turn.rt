@@ -10,8 +10,11 @@ const STEP: u64 = 8;
 
 const MOST_RANK: u64 = 7;
 
+/// A transaction that was lost so often takes the turn.
+pub const MOST_LOST: u32 = 8;
+
 // Others look so often for one of rank 1 before they go on all the same, and twice as often for each rank more.
-const LEAST_LOOKS: u32 = 4_096;
+const LEAST_LOOKS: u32 = 8_192;
 
 // So they look at most so often.
 const MOST_LOOKS: u32 = 524_288;
@@ -87,8 +90,17 @@ impl Turn {
         }
     }
 
-    /// Takes the turn where nobody has it.
-    pub fn take(&self) -> Option<Ticket> {
+    /// Takes the turn where nobody has it. Who has it, and was lost again, rises by a new ticket: others wait twice as long
+    /// for it.
+    pub fn go_first(&self, ticket: Option<Ticket>) -> Option<Ticket> {
+        match ticket {
+            Some(ticket) => Some(self.rise(ticket)),
+            None => self.take(),
+        }
+    }
+
+    // Takes the turn where nobody has it.
+    fn take(&self) -> Option<Ticket> {
         let free = self.word.load(SeqCst);
         if rank(free) > 0 {
             return None;
@@ -105,8 +117,8 @@ impl Turn {
         }
     }
 
-    /// A new ticket for who has the turn, for which others wait twice as long.
-    pub fn rise(&self, ticket: Ticket) -> Ticket {
+    // A new ticket for who has the turn, for which others wait twice as long.
+    fn rise(&self, ticket: Ticket) -> Ticket {
         let rank = (rank(ticket.word) + 1).min(MOST_RANK);
         let ticket = Ticket {
             word: next(ticket.word).wrapping_add(rank),
@@ -128,7 +140,7 @@ impl Turn {
 
     /// Lets who has the turn go first, for some time.
     pub fn let_first(&self, courtesy: &mut Courtesy) {
-        for _look in 0..MOST_LOOKS {
+        for _look in 0..=MOST_LOOKS {
             if !self.is_to_wait(courtesy) {
                 return;
             }
@@ -163,9 +175,5 @@ fn next(word: u64) -> u64 {
 
 // How often others look for the one with this ticket.
 fn looks_for(ticket: Ticket) -> u32 {
-    let rank = rank(ticket.word);
-    if rank >= MOST_RANK {
-        return MOST_LOOKS - 1;
-    }
-    LEAST_LOOKS << rank
+    LEAST_LOOKS << rank(ticket.word).saturating_sub(1)
 }

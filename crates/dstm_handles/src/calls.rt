@@ -11,14 +11,11 @@ ghost use Rattle.dstm_handles.specs.declared.code.Code.TheVariants.{Again, Done,
 use crate::code::Code;
 use crate::thread::Thread;
 use dstm_attempts::Look;
-use dstm_cells::{Courtesy, Owned, Turn, Why};
+use dstm_cells::{Courtesy, MOST_LOST, Owned, Turn, Why};
 use dstm_model::{AnyLaw, Law, Val};
 use dstm_tables::{Caller, Table};
 use std::alloc::{AllocError, Global};
 use std::sync::Arc;
-
-// A transaction that has lost so many attempts takes the turn.
-const MOST_LOST: u32 = 8;
 
 impl Thread {
     /// The part that makes the attempts of a caller of this table.
@@ -51,22 +48,12 @@ impl Thread {
         ensures { Enters self.old self.new result }
     {
         if lost >= MOST_LOST {
-            self.take_turn();
+            self.ticket = self.turn.go_first(self.ticket);
         }
         if self.ticket.is_none() && self.turn.is_to_wait(&mut self.courtesy) {
             return Code::Again;
         }
         Code::Done
-    }
-
-    // Takes the turn, or rises where it has it.
-    fn take_turn(&mut self)
-        ensures { IsSame self.old self.new }
-    {
-        self.ticket = match self.ticket {
-            Some(ticket) => Some(self.turn.rise(ticket)),
-            None => self.turn.take(),
-        };
     }
 
     // Gives the turn back, where it has it.
