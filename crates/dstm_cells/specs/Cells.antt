@@ -1,5 +1,6 @@
 -- The cells of a memory between runs, and the table of a run.
-use Rattle.std.specs.Prelude.{◌≡◌, ◌≢◌, ◌⊎◌, ℕ, ◌+◌, ◌<◌, ◌≤◌, All, Some, replicate, slice_index_or, List, [], ◌∷◌, ◌++◌, length, sum_by}
+use Rattle.std.specs.Prelude.{◌≡◌, ◌≢◌, ◌⊎◌, ℕ, ◌+◌, ◌<◌, ◌≤◌, All, Some, replicate, slice_index_or, slice_set, List, [], ◌∷◌, ◌++◌, length, sum_by}
+use Rattle.dstm_model.specs.Map.{value_at}
 use Rattle.dstm_model.specs.declared.value.Val.{Val}
 use Rattle.dstm_cells.specs.declared.cell.Cell.{Cell}
 use Rattle.dstm_cells.specs.declared.error.Failed.{Failed}
@@ -36,6 +37,13 @@ pub record AddsAll {T : Type 0} (found : Val → T) (old new : List Val) (cells 
   pub is : found kept ≡ value
   pub behind : new ≡ old ++ replicate (length cells) kept
   pub named : AreNamed (length old) cells
+
+-- a cell was set between runs: it held one value, holds another, and no other cell was set
+pub record Sets {T : Type 0} (found : Val → T) (old new : List Val) (cell : ℕ) (had value : T) : Type 0 where
+  pub held : had ≡ found (value_at old cell)
+  pub kept : Val
+  pub is : found kept ≡ value
+  pub set : new ≡ slice_set old cell kept
 
 -- a number comes too early: one of these threads has committed under a number that is no smaller
 pub record ComesTooEarly {T : Type 0} (ends : List (Ended T)) (at : ℕ) : Type 0 where

@@ -136,6 +136,28 @@ impl<T: Drop> From<AllocFailed<T>> for Failed {
     }
 }
 
+impl From<AllocError> for GaveUp {
+    ghost use Rattle.std.specs.Prelude.{◌≡◌};
+    ghost use Rattle.dstm_cells.specs.declared.error.GaveUp.TheVariants.{Memory};
+
+    ghost from_gives = { λ _ e. e ≡ Memory };
+
+    fn from(_e: AllocError) -> GaveUp {
+        GaveUp::Memory
+    }
+}
+
+impl<T: Drop> From<AllocFailed<T>> for GaveUp {
+    ghost use Rattle.std.specs.Prelude.{◌≡◌};
+    ghost use Rattle.dstm_cells.specs.declared.error.GaveUp.TheVariants.{Memory};
+
+    ghost from_gives = { λ _ e. e ≡ Memory };
+
+    fn from(_e: AllocFailed<T>) -> GaveUp {
+        GaveUp::Memory
+    }
+}
+
 impl From<AllocError> for Stop {
     ghost use Rattle.std.specs.Prelude.{◌≡◌};
     ghost use Rattle.dstm_cells.specs.UnderWay.{stop_by};

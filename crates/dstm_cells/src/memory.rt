@@ -2,7 +2,7 @@
 ghost use Rattle.std.specs.Prelude.{◌≡◌, ◌≢◌, ◌⊎◌, ◌↔◌, ◌+◌, ◌<◌, ◌≤◌, ℕ, [], length, slice_index_or, vec_capacity, All, Ok, Err, true, false, IfErr, IfOk, OnOk};
 ghost use Rattle.dstm_attempts.specs.Attempts.{above};
 ghost use Rattle.dstm_cells.specs.Attempts.{CouldNotRead};
-ghost use Rattle.dstm_cells.specs.Cells.{Adds, AddsAll, AreNamed, ComesTooEarly, Founds, GivesAtMostOne, IsFor, LeavesUnread, ReadsAll, ReadsAmiss, ReadsBehind, Takes, WantsRoom, drawn_by};
+ghost use Rattle.dstm_cells.specs.Cells.{Adds, AddsAll, AreNamed, ComesTooEarly, Founds, GivesAtMostOne, IsFor, LeavesUnread, ReadsAll, ReadsAmiss, ReadsBehind, Sets, Takes, WantsRoom, drawn_by};
 ghost use Rattle.dstm_cells.specs.Runs.{AnswerEach, AreAt, AreNumbered, CalledFor, FailsByFirst, FailsFor, GivesOutSeats, HaveAnswered, HaveNew, IsFirst, IsFirstOf, IsWorked, LeavesBy, RanInTurn, RanOn, TakesBackSeats, WasCalled, WasReadAmiss, WasUnread, ends_of};
 ghost use Rattle.dstm_cells.specs.declared.error.Failed.TheVariants as failed;
 ghost use Rattle.dstm_model.specs.Map.{state_after, value_at};
@@ -137,6 +137,23 @@ impl<L: Law + Copy> Memory<L> {
             Some(value) => Ok(T::of_val(*value)),
             None => Err(Failed::Foreign),
         }
+    }
+
+    /// Puts a value into a cell between runs, and answers what it held.
+    pub fn set<T: Word>(&mut self, cell: Cell<T>, value: T) -> Result<T, Failed>
+        ensures engine { self.new.engine ≡ self.old.engine }
+        ensures law { self.new.law ≡ self.old.law }
+        ensures sets { IfOk result (λ had. Sets T.found self.old.values.items self.new.values.items cell.object had value) }
+        ensures foreign { result ≡ Err failed.Foreign ↔ length self.old.values.items ≤ cell.object }
+        ensures fails { IfErr result (λ why. (why ≡ failed.Foreign) × (self.new.values.items ≡ self.old.values.items)) }
+    {
+        let object = cell.object as usize;
+        if object >= self.values.len() {
+            return Err(Failed::Foreign);
+        }
+        let had = T::of_val(self.values[object]);
+        self.values[object] = value.to_val();
+        Ok(had)
     }
 
     /// A table that has the values of the cells, for a run of so many threads, from 1 to 63, and what gives out their
