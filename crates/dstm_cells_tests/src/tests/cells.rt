@@ -105,6 +105,17 @@ fn a_cell_of_another_memory_is_foreign(rt: HostRuntime) -> Result<(), Fail> {
     Ok(())
 }
 
+#[test]
+fn a_cell_is_set_between_runs(rt: HostRuntime) -> Result<(), Fail> {
+    let mut memory = Memory::new(rt.alloc());
+    let cell = cell_of(&mut memory, 3u64)?;
+    assert!(rt; memory.set(cell, 4) == Ok(3));
+    assert!(rt; held(&memory, cell) == Ok(4));
+    let mut other = Memory::new(rt.alloc());
+    assert!(rt; other.set(cell, 5) == Err(Failed::Foreign));
+    Ok(())
+}
+
 // One is halved, the second of a pair that takes another's place is added, and what is found then is the first of a pair.
 #[derive(Drop)]
 struct Halved {
