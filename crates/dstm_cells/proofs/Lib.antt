@@ -3,6 +3,7 @@ mod Calling
 pub mod Closures
 pub mod Found
 mod Reading
+mod Resting
 mod Running
 pub mod Sends
 mod Spending

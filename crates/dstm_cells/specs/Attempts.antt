@@ -13,6 +13,15 @@ use Rattle.dstm_cells.specs.declared.error.GaveUp.TheVariants as gave_up
 use Rattle.dstm_cells.specs.declared.error.Why.{Why}
 use Rattle.dstm_cells.specs.declared.error.Why.TheVariants.{Again, Retry, Foreign, Memory}
 
+-- What is said of a wait of so many looks at most holds of one wait: of as many as its thread was told; or, where its rest may
+-- end it, of a number of them, which is not zero where the thread was told any.
+pub record WithinLooks (tires : Bool) (told : ℕ) (says : ℕ → Type 0) : Type 0 where
+  pub looks : ℕ
+  pub most : looks ≤ told
+  pub some : looks ≡ 0 → told ≡ 0
+  pub all : tires ≡ false → looks ≡ told
+  pub said : says looks
+
 module _ {L : Type 0} where
   -- how often a caller has looked: of its last attempt under DSTM how often all that it had read was seen to be current,
   -- under TL2 how many attempts it has begun, since each look is one

@@ -1,5 +1,5 @@
 -- What a transaction that a closure makes has done.
-use Rattle.std.specs.Prelude.{◌≡◌, ◌⊎◌, ℕ, zero, suc, true, List, Result, Ok, Err}
+use Rattle.std.specs.Prelude.{◌≡◌, ◌⊎◌, ℕ, zero, suc, Bool, true, List, Result, Ok, Err}
 use denote.Ref.{MutBor}
 use Rattle.std.specs.Fn.{CalledAtMut, FnOnceReturnsAtMut, Mut, Once}
 use Rattle.dstm_model.specs.declared.value.Val.{Val}
@@ -8,7 +8,7 @@ use Rattle.dstm_attempts.specs.Attempts.{Begins, BeginsNone, IsLost, IsSpent, be
 use Rattle.dstm_cells.specs.declared.error.GaveUp.{GaveUp}
 use Rattle.dstm_cells.specs.declared.error.GaveUp.TheVariants.{Spent}
 use Rattle.dstm_cells.specs.declared.error.Stop.{Stop}
-use Rattle.dstm_cells.specs.Attempts.{FollowsAndLeaves, IsLeft, StaysFor}
+use Rattle.dstm_cells.specs.Attempts.{FollowsAndLeaves, IsLeft, StaysFor, WithinLooks}
 use Rattle.dstm_cells.specs.UnderWay.{AddsNothing, IsUntouched, Keeps, LeavesLawful, TakesEffect}
 
 -- each call of the closure keeps how often its transaction looks where it retries
@@ -111,3 +111,14 @@ module _ {X L F R : Type 0} (caller : X → Caller L) where
         -- attempt.
         abbrev pub GaveUpFor : Caller L → F → Caller L → GaveUp → Type 0
         GaveUpFor k f n why = ((why ≡ Spent) × WasSpent k f n) ⊎ WasStopped k f n why
+
+        -- the same, where the rest between looks may end a wait before as many were made as the thread was told
+        pub record WasStoppedResting (tires : Bool) (k : Caller L) (f : F) (n : Caller L) (why : GaveUp) : Type 0 where
+          pub stop : Stop
+          pub last : CalledAnew k f (Err stop)
+          pub follows : WithinLooks tires (patience last.on.ended)
+              (λ looks. FollowsAndLeaves holds looks (caller last.on.ended) stop.why n (Err why))
+          pub leaves : StaysFor stop.why (caller last.on.ended) n
+
+        abbrev pub GaveUpResting : (tires : Bool) → Caller L → F → Caller L → GaveUp → Type 0
+        GaveUpResting tires k f n why = ((why ≡ Spent) × WasSpent k f n) ⊎ WasStoppedResting tires k f n why

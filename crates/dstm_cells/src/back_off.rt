@@ -1,12 +1,9 @@
 // How a transaction that was lost comes again.
 use crate::error::{Stop, Why};
+use crate::rest::Rest;
 use crate::turn::{Courtesy, MOST_LOST, Ticket, Turn};
-use std::thread::yield_now;
 
-// A transaction gives way after each attempt that was lost, twice as often as before, and at most 64 times.
-const MOST_DOUBLINGS: u32 = 6;
-
-/// How the transactions of a thread come again behind attempts that were lost: they give way, and one that was lost often
+/// How the transactions of a thread come again behind attempts that were lost: they rest, and one that was lost often
 /// takes the turn. Nothing is promised of it but that each call returns.
 pub(crate) struct BackOff<'a> {
     turn: Option<&'a Turn>,
@@ -32,22 +29,22 @@ impl<'a> BackOff<'a> {
 
     /// Before an attempt: takes the turn where the transaction was lost often, and lets another one that has it go first.
     #[inline(always)]
-    pub(crate) fn enter(&mut self) {
+    pub(crate) fn enter<S: Rest>(&mut self, rest: &mut S) {
         let Some(turn) = self.turn else {
             return;
         };
         if self.lost >= MOST_LOST || turn.is_taken() {
-            self.take_or_wait(turn);
+            self.take_or_wait(turn, rest);
         }
     }
 
     #[cold]
-    fn take_or_wait(&mut self, turn: &Turn) {
+    fn take_or_wait<S: Rest>(&mut self, turn: &Turn, rest: &mut S) {
         if self.lost >= MOST_LOST {
             self.ticket = turn.go_first(self.ticket);
         }
         if self.ticket.is_none() {
-            turn.let_first(&mut self.courtesy);
+            turn.let_first(&mut self.courtesy, rest);
         }
     }
 
@@ -62,14 +59,14 @@ impl<'a> BackOff<'a> {
     }
 
     /// Behind an attempt that came to nothing: lets other threads run.
-    pub(crate) fn give_way(&mut self) {
+    pub(crate) fn give_way<S: Rest>(&mut self, rest: &mut S) {
         if self.waited {
             self.waited = false;
             return;
         }
         self.lost = self.lost.saturating_add(1);
         if self.ticket.is_none() {
-            give_way(1 << self.lost.min(MOST_DOUBLINGS));
+            rest.back_off(self.lost);
         }
     }
 
@@ -106,12 +103,5 @@ impl<'a> Drop for BackOff<'a> {
 fn give_back(turn: Option<&Turn>, ticket: Option<Ticket>) {
     if let (Some(turn), Some(ticket)) = (turn, ticket) {
         turn.give_back(ticket);
-    }
-}
-
-// Lets other threads run, so many times.
-fn give_way(yields: u32) {
-    for _yield in 0..yields {
-        yield_now();
     }
 }

@@ -2,12 +2,13 @@
 ghost use Rattle.std.specs.Prelude.{◌≡◌, true, false, IfErr, IfOk};
 ghost use Rattle.dstm_attempts.specs.Attempts.{IsLost, IsQuit};
 ghost use Rattle.dstm_cells.specs.Attempts.{IsLeft};
-ghost use Rattle.dstm_cells.specs.Closures.{GaveUpFor, IsLawful, KeepsEach, KeepsPatience, TookEffect, Viewed};
+ghost use Rattle.dstm_cells.specs.Closures.{GaveUpFor, GaveUpResting, IsLawful, KeepsEach, KeepsPatience, TookEffect, Viewed};
 ghost use Rattle.dstm_cells.specs.UnderWay.{AddsNothing, Keeps, LeavesLawful, TakesEffect};
 ghost use Rattle.dstm_tables.specs.Callers.{home_of};
 
 use crate::back_off::BackOff;
 use crate::error::{GaveUp, Stop};
+use crate::rest::{Rest, Yields};
 use crate::transaction::Transaction;
 use crate::turn::Turn;
 use crate::under_way::Tx;
@@ -65,7 +66,27 @@ impl<X: Transaction> Part<'_, X> {
         ensures quit { IsQuit (X.caller self.old.tx) → IsQuit (X.caller self.new.tx) }
         ensures patience { KeepsPatience X.patience F.FnMut → X.patience self.new.tx ≡ X.patience self.old.tx }
     {
-        self.make(f, true)
+        self.make(f, true, &mut Yields)
+    }
+
+    /// As `atomically`, and between two looks, and wherever else it lets others run, the thread rests as it is told here:
+    /// by `Naps` it sleeps, and waits for as long as these have patience.
+    pub fn atomically_by<R: Drop, S: Rest, F>(&mut self, rest: &mut S, f: F) -> Result<R, GaveUp>
+    where
+        F: FnMut(&mut X) -> Result<R, Stop>,
+        requires callable { F.IsAlwaysCallable f }
+        requires lawful { IsLawful X.caller F.FnMut X.Rule.holds }
+        ensures took { KeepsEach X.caller F.FnMut →
+            IfOk result (TookEffect X.caller F.FnMut X.Rule.holds X.patience (X.caller self.old.tx) f (X.caller self.new.tx)) }
+        ensures nothing { KeepsEach X.caller F.FnMut →
+            IfErr result (λ _. AddsNothing (X.caller self.old.tx) (X.caller self.new.tx)) }
+        ensures why { KeepsEach X.caller F.FnMut →
+            IfErr result (GaveUpResting X.caller F.FnMut X.Rule.holds X.patience S.tires (X.caller self.old.tx) f (X.caller self.new.tx)) }
+        ensures home { KeepsEach X.caller F.FnMut → home_of (X.caller self.new.tx) ≡ home_of (X.caller self.old.tx) }
+        ensures quit { IsQuit (X.caller self.old.tx) → IsQuit (X.caller self.new.tx) }
+        ensures patience { KeepsPatience X.patience F.FnMut → X.patience self.new.tx ≡ X.patience self.old.tx }
+    {
+        self.make(f, true, rest)
     }
 
     /// Looks at the memory: calls the closure, and again, until an attempt was under way to its end. What it was told stood
@@ -83,12 +104,28 @@ impl<X: Transaction> Part<'_, X> {
         ensures quit { IsQuit (X.caller self.old.tx) → IsQuit (X.caller self.new.tx) }
         ensures patience { KeepsPatience X.patience F.FnMut → X.patience self.new.tx ≡ X.patience self.old.tx }
     {
-        self.make(f, false)
+        self.make(f, false, &mut Yields)
+    }
+
+    /// As `view`, and the thread rests as it is told here.
+    pub fn view_by<R: Drop, S: Rest, F>(&mut self, rest: &mut S, f: F) -> Result<R, GaveUp>
+    where
+        F: FnMut(&mut X) -> Result<R, Stop>,
+        requires callable { F.IsAlwaysCallable f }
+        ensures viewed { KeepsEach X.caller F.FnMut →
+            IfOk result (Viewed X.caller F.FnMut X.Rule.holds X.patience (X.caller self.old.tx) f (X.caller self.new.tx)) }
+        ensures nothing { KeepsEach X.caller F.FnMut → AddsNothing (X.caller self.old.tx) (X.caller self.new.tx) }
+        ensures why { KeepsEach X.caller F.FnMut →
+            IfErr result (GaveUpResting X.caller F.FnMut X.Rule.holds X.patience S.tires (X.caller self.old.tx) f (X.caller self.new.tx)) }
+        ensures quit { IsQuit (X.caller self.old.tx) → IsQuit (X.caller self.new.tx) }
+        ensures patience { KeepsPatience X.patience F.FnMut → X.patience self.new.tx ≡ X.patience self.old.tx }
+    {
+        self.make(f, false, rest)
     }
 
     // Calls the closure on attempts, one after the other, until one has ended well, by its commit or by being left.
     #[inline(always)]
-    fn make<R: Drop, F>(&mut self, f: F, commits: bool) -> Result<R, GaveUp>
+    fn make<R: Drop, S: Rest, F>(&mut self, f: F, commits: bool, rest: &mut S) -> Result<R, GaveUp>
     where
         F: FnMut(&mut X) -> Result<R, Stop>,
         requires callable { F.IsAlwaysCallable f }
@@ -100,16 +137,17 @@ impl<X: Transaction> Part<'_, X> {
         ensures nothing { KeepsEach X.caller F.FnMut →
             IfErr result (λ _. AddsNothing (X.caller self.old.tx) (X.caller self.new.tx)) }
         ensures why { KeepsEach X.caller F.FnMut →
-            IfErr result (GaveUpFor X.caller F.FnMut X.Rule.holds X.patience (X.caller self.old.tx) f (X.caller self.new.tx)) }
+            IfErr result (GaveUpResting X.caller F.FnMut X.Rule.holds X.patience S.tires (X.caller self.old.tx) f (X.caller self.new.tx)) }
         ensures home { KeepsEach X.caller F.FnMut → home_of (X.caller self.new.tx) ≡ home_of (X.caller self.old.tx) }
         ensures quit { IsQuit (X.caller self.old.tx) → IsQuit (X.caller self.new.tx) }
         ensures patience { KeepsPatience X.patience F.FnMut → X.patience self.new.tx ≡ X.patience self.old.tx }
     {
         let mut f = f;
         self.back_off.settle();
+        rest.reset();
         self.tx.renew();
         for _number in 0..self.tx.attempts() {
-            self.back_off.enter();
+            self.back_off.enter(rest);
             self.tx.begin()?;
             match f(&mut self.tx) {
                 Ok(answer) => {
@@ -120,10 +158,10 @@ impl<X: Transaction> Part<'_, X> {
                 }
                 Err(stop) => {
                     self.back_off.stop(&stop);
-                    self.tx.leave(stop)?;
+                    self.tx.leave(stop, rest)?;
                 }
             }
-            self.back_off.give_way();
+            self.back_off.give_way(rest);
         }
         Err(GaveUp::Spent)
     }

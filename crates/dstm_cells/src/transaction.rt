@@ -3,12 +3,13 @@ ghost use Rattle.std.specs.Prelude.{◌++◌, ◌≡◌, ◌<◌, ℕ, List, [],
 ghost use Rattle.dstm_tables.specs.declared.tables.Caller.{Caller};
 ghost use Rattle.dstm_attempts.specs.Attempts.{AddsNothing, Begins, BeginsNone, IsLost, IsQuit, IsSpent, Keeps, LeavesLawful, TakesEffect, attempts_of, begun, renewed};
 ghost use Rattle.dstm_cells.specs.Alternatives.{HasSetBack, Noting, StopsUndoing, Undoes, noting, settings};
-ghost use Rattle.dstm_cells.specs.Attempts.{FollowsAndLeaves, IsLeft, StaysFor};
+ghost use Rattle.dstm_cells.specs.Attempts.{FollowsAndLeaves, IsLeft, StaysFor, WithinLooks};
 ghost use Rattle.dstm_cells.specs.declared.error.GaveUp.TheVariants.{Spent};
 ghost use Rattle.dstm_cells.specs.declared.under_way.Undo.{Undo};
 
 use crate::error::{GaveUp, Stop};
 use crate::holds::Holds;
+use crate::rest::Rest;
 use crate::under_way::Attempt;
 use dstm_model::Law;
 
@@ -61,10 +62,11 @@ pub trait Transaction: Drop {
         ensures patience { patience self.new ≡ patience self.old };
 
     /// Leaves the attempt that a closure has stopped, and tells whether there may be another one.
-    fn leave(&mut self, stop: Stop) -> Result<(), GaveUp>
+    fn leave<R: Rest>(&mut self, stop: Stop, rest: &mut R) -> Result<(), GaveUp>
         ensures stays { StaysFor stop.why (caller self.old) (caller self.new) }
         ensures quit { IsQuit (caller self.new) }
-        ensures follows { FollowsAndLeaves Self.Rule.holds (patience self.old) (caller self.old) stop.why (caller self.new) result }
+        ensures follows { WithinLooks R.tires (patience self.old) (λ looks.
+            FollowsAndLeaves Self.Rule.holds looks (caller self.old) stop.why (caller self.new) result) }
         ensures patience { patience self.new ≡ patience self.old };
 
     /// How often a transaction that retries looks at most whether something that it has read has changed.
@@ -137,9 +139,9 @@ impl<L: Law, S: Holds<L>> Transaction for Attempt<L, S> {
         is_under_way
     }
 
-    fn leave(&mut self, stop: Stop) -> Result<(), GaveUp> {
+    fn leave<R: Rest>(&mut self, stop: Stop, rest: &mut R) -> Result<(), GaveUp> {
         let Stop { why } = stop;
-        let next = self.follow(why);
+        let next = self.follow(why, rest);
         self.attempts.abandon(self.table.table());
         next
     }

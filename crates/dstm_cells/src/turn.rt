@@ -1,9 +1,9 @@
 // The turn of a transaction that was lost often.
 ghost use Rattle.std.specs.Prelude.{◌≡◌, ◌%◌};
 
+use crate::rest::Rest;
 use std::sync::atomic::AtomicU64;
 use std::sync::atomic::Ordering::SeqCst;
-use std::thread::yield_now;
 
 // The word counts in steps of 8. What is above a multiple of 8 is the rank of who has the turn: none has it at 0.
 const STEP: u64 = 8;
@@ -78,6 +78,12 @@ impl Courtesy {
         }
         true
     }
+
+    // A rest before the next look counts for so many looks more.
+    fn add_looks(&mut self, more: u32) {
+        self.looks = self.looks.saturating_add(more);
+        self.free = self.free.saturating_add(more / LOOKS_FOR_ONE);
+    }
 }
 
 impl Turn {
@@ -139,12 +145,12 @@ impl Turn {
     }
 
     /// Lets who has the turn go first, for some time.
-    pub fn let_first(&self, courtesy: &mut Courtesy) {
+    pub fn let_first<S: Rest>(&self, courtesy: &mut Courtesy, rest: &mut S) {
         for _look in 0..=MOST_LOOKS {
             if !self.is_to_wait(courtesy) {
                 return;
             }
-            yield_now();
+            courtesy.add_looks(rest.let_first().saturating_sub(1));
         }
     }
 

@@ -3,7 +3,7 @@ ghost use Rattle.std.specs.Prelude.{◌++◌, ◌⊎◌, ◌≡◌, List, [], �
 ghost use Rattle.dstm_tables.specs.Callers.{done, home_of, law_of};
 ghost use Rattle.dstm_attempts.specs.Attempts.{Exchanges, Finds, IsClosed, IsUntouched, Keeps, MayBegin, Opens, StoodTogether, objects_of};
 ghost use Rattle.dstm_cells.specs.Alternatives.{Notes, NotesOnce, OpensAndSets, OrElse, noting, settings};
-ghost use Rattle.dstm_cells.specs.Attempts.{CouldNotRead, Follows, FollowsLooks, FollowsOver, FollowsRetry, ReadsInTurn, StaysFor, StaysLooking, StaysWaiting, StopsReading};
+ghost use Rattle.dstm_cells.specs.Attempts.{CouldNotRead, Follows, FollowsLooks, FollowsOver, FollowsRetry, ReadsInTurn, StaysFor, StaysLooking, StaysWaiting, StopsReading, WithinLooks};
 ghost use Rattle.dstm_cells.specs.Cells.{ReadsAll};
 ghost use Rattle.dstm_cells.specs.Closures.{KeepsOnce};
 ghost use Rattle.dstm_cells.specs.UnderWay.{Changes, Gets, Refuses, StopsChange, StopsLook, stop_by};
@@ -14,13 +14,13 @@ use crate::alternatives::or_else;
 use crate::cell::{Cell, Word};
 use crate::error::{Failed, GaveUp, Stop, Why};
 use crate::holds::Holds;
+use crate::rest::Rest;
 use crate::transaction::Transaction;
 use crate::under_way::{Attempt, Tx, Undo};
 use dstm_attempts::{Attempts, Look};
 use dstm_model::{AnyLaw, Law, Val};
 use dstm_tables::Caller;
 use std::alloc::{AllocFailed, Global};
-use std::thread::yield_now;
 
 /// How often a transaction that retries looks whether something that it has read has changed, where it is not told.
 pub const LOOKS: u32 = 1_048_576;
@@ -189,14 +189,15 @@ impl<L: Law, S: Holds<L>> Attempt<L, S> {
     }
 
     // What follows where a closure has stopped the attempt. After a retry it waits.
-    pub(crate) fn follow(&mut self, why: Why) -> Result<(), GaveUp>
+    pub(crate) fn follow<R: Rest>(&mut self, why: Why, rest: &mut R) -> Result<(), GaveUp>
         ensures stays { StaysFor why self.old.attempts.caller self.new.attempts.caller }
         ensures looks { self.new.looks ≡ self.old.looks }
-        ensures follows { Follows L.holds self.old.looks self.old.attempts.caller why self.new.attempts.caller result }
+        ensures follows { WithinLooks R.tires self.old.looks (λ looks.
+            Follows L.holds looks self.old.attempts.caller why self.new.attempts.caller result) }
     {
         match why {
             Why::Again => self.over(),
-            Why::Retry => self.wait(),
+            Why::Retry => self.wait(rest),
             Why::Foreign => Err(GaveUp::Foreign),
             Why::Memory => Err(GaveUp::Memory),
         }
@@ -213,32 +214,37 @@ impl<L: Law, S: Holds<L>> Attempt<L, S> {
     }
 
     // Waits until something has changed. First the attempt lets go of what it has set, so that it stands in nobody's way.
-    fn wait(&mut self) -> Result<(), GaveUp>
+    fn wait<R: Rest>(&mut self, rest: &mut R) -> Result<(), GaveUp>
         ensures stays { StaysWaiting self.old.attempts.caller self.new.attempts.caller }
         ensures looks { self.new.looks ≡ self.old.looks }
-        ensures follows { FollowsRetry L.holds self.old.looks self.old.attempts.caller self.new.attempts.caller result }
+        ensures follows { WithinLooks R.tires self.old.looks (λ looks.
+            FollowsRetry L.holds looks self.old.attempts.caller self.new.attempts.caller result) }
     {
         match self.attempts.let_go(self.table.table()) {
-            Ok(Look::Same) => self.look_on(),
+            Ok(Look::Same) => self.look_on(rest),
             Ok(Look::Changed) => Ok(()),
             Ok(Look::Spent) => Err(GaveUp::Spent),
             Err(_) => Err(GaveUp::Memory),
         }
     }
 
-    // Looks until something has changed. It gives way at each look.
-    fn look_on(&mut self) -> Result<(), GaveUp>
+    // Looks until something has changed, or it is tired. It rests before each look.
+    fn look_on<R: Rest>(&mut self, rest: &mut R) -> Result<(), GaveUp>
         ensures stays { StaysLooking self.old.attempts.caller self.new.attempts.caller }
         ensures looks { self.new.looks ≡ self.old.looks }
-        ensures follows { FollowsLooks L.holds self.old.looks self.old.attempts.caller self.new.attempts.caller result }
+        ensures follows { WithinLooks R.tires self.old.looks (λ looks.
+            FollowsLooks L.holds looks self.old.attempts.caller self.new.attempts.caller result) }
     {
         let began = self.attempts.clock();
         for _look in 0..self.looks {
-            yield_now();
+            rest.rest();
             match self.attempts.look(self.table.table(), began) {
                 Look::Same => {}
                 Look::Changed => return Ok(()),
                 Look::Spent => return Err(GaveUp::Spent),
+            }
+            if rest.is_tired() {
+                return Err(GaveUp::Idle);
             }
         }
         Err(GaveUp::Idle)

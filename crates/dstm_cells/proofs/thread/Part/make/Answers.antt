@@ -9,6 +9,7 @@ use Rattle.dstm_cells.specs.declared.error.Stop.{Stop}
 use Rattle.dstm_cells.specs.declared.thread.Part.{Part}
 use Rattle.dstm_attempts.proofs.UnderWay.{adds_nothing, begins_none, nothing_twice, renewed_quit, spent_at}
 use Rattle.dstm_cells.proofs.Calling.{called_at, called_from, if_err, is_err}
+use Rattle.dstm_cells.proofs.Resting.{goes_on_within}
 use Rattle.dstm_cells.proofs.Spending.{renewed_nothing, same_attempts}
 use Rattle.dstm_cells.proofs.Waiting.{kept_nothing, stop_nothing}
 use Rattle.dstm_cells.proofs.thread.Part.make.Given.{Over}
@@ -210,8 +211,11 @@ loop-number-preserved g c = (
             (w.end.ensures.keeps w.if-end.false, w.end.ensures.lost w.if-end.false))
         | in-Err+in_ok-leave-in-Err w ↦
             subst (λ (p : Part _). TriesOn caller g.F.FnMut g.X.Rule.Law.holds g.X.Transaction.patience c.f.result c.f.new.arg2 (caller p.tx)) (sym w.self-is)
-            (subst (λ r. TriesOn caller g.F.FnMut g.X.Rule.Law.holds g.X.Transaction.patience r c.f.new.arg2 (caller w.leave.new.self)) (sym w.in-Err.is)
-            (w.leave.ensures.stays, rw w.in_ok-leave-in-Err.was at w.leave.ensures.follows))
+            (subst (λ r. TriesOn caller g.F.FnMut g.X.Rule.Law.holds g.X.Transaction.patience r c.f.new.arg2 (caller w.leave.new.self)) (sym w.in-Err.is) (
+              w.leave.ensures.stays,
+              goes_on_within g.X.Rule.Law.holds g.S.Rest.tires (g.X.Transaction.patience c.f.new.arg2) w.in-Err.stop.why
+                  after (caller w.leave.new.self) (rw w.in_ok-leave-in-Err.was at w.leave.ensures.follows),
+            ))
       ] in
       let left : AddsNothing after (caller c.match-f.self.tx) × (begun after ≤ begun (caller c.match-f.self.tx)) =
       elim c.match-f.branch [
