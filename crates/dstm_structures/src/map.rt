@@ -1,5 +1,5 @@
 // A hash map in the cells of a memory.
-ghost use Rattle.std.specs.Prelude.{◌≡◌, ◌⊎◌, ◌↔◌, ◌+◌, ◌*◌, ◌<◌, ◌≤◌, List, false, length, Err, IfErr, IfOk, IfSome, OnOk};
+ghost use Rattle.std.specs.Prelude.{◌≡◌, ◌⊎◌, ◌↔◌, ◌+◌, ◌*◌, ◌<◌, ◌≤◌, List, false, length, Err, IfErr, IfOk, IfSome, MatchOption, OnOk};
 ghost use Rattle.dstm_cells.specs.Cells.{WantsRoom};
 ghost use Rattle.dstm_cells.specs.UnderWay.{MayBegin};
 ghost use Rattle.dstm_cells.specs.declared.error.Failed.TheVariants as failed;
@@ -53,6 +53,17 @@ impl<V: Word> HashMap<V> {
             cells,
             holds: PhantomData,
         })
+    }
+
+    /// The map whose cells have the numbers from this one on, if so many keys have room in them: there are two for each.
+    pub fn at(first: u32, capacity: u32) -> Option<HashMap<V>>
+        ensures { MatchOption result ((capacity ≡ 0) ⊎ (524288 < first + 2 * capacity))
+            (λ map. (map.cells.first ≡ first) × (map.cells.capacity ≡ capacity)) }
+    {
+        if capacity == 0 || capacity > MOST_CELLS / 2 || first > MOST_CELLS - 2 * capacity {
+            return None;
+        }
+        Some(HashMap::of_cells(Rows { first, capacity }))
     }
 
     /// How many keys it has room for.

@@ -1,5 +1,5 @@
 // An ordered map in the cells of a memory.
-ghost use Rattle.std.specs.Prelude.{◌≡◌, ◌⊎◌, ◌↔◌, ◌+◌, ◌*◌, ◌<◌, ◌≤◌, List, None, false, length, Err, IfErr, IfOk, IfSome, OnOk};
+ghost use Rattle.std.specs.Prelude.{◌≡◌, ◌⊎◌, ◌↔◌, ◌+◌, ◌*◌, ◌<◌, ◌≤◌, List, None, false, length, Err, IfErr, IfOk, IfSome, MatchOption, OnOk};
 ghost use Rattle.dstm_cells.specs.Cells.{WantsRoom};
 ghost use Rattle.dstm_cells.specs.UnderWay.{MayBegin};
 ghost use Rattle.dstm_cells.specs.declared.error.Failed.TheVariants as failed;
@@ -47,6 +47,23 @@ impl<V: Word> OrderedMap<V> {
         };
         Ok(OrderedMap {
             map: HashMap::of_cells(cells),
+        })
+    }
+
+    /// The map whose cells have the numbers from this one on, if so many keys have room in them: there are three for each, and
+    /// one more.
+    pub fn at(first: u32, capacity: u32) -> Option<OrderedMap<V>>
+        ensures { MatchOption result ((capacity ≡ 0) ⊎ (524288 < first + 3 * capacity + 1))
+            (λ map. (map.map.cells.first ≡ first) × (map.map.cells.capacity ≡ capacity)) }
+    {
+        if capacity == 0
+            || capacity > (MOST_CELLS - 1) / 3
+            || first > MOST_CELLS - 1 - 3 * capacity
+        {
+            return None;
+        }
+        Some(OrderedMap {
+            map: HashMap::of_cells(Rows { first, capacity }),
         })
     }
 

@@ -1,5 +1,5 @@
 // A pool of cells in the cells of a memory.
-ghost use Rattle.std.specs.Prelude.{◌≡◌, ◌⊎◌, ◌↔◌, ◌+◌, ◌*◌, ◌%◌, ◌<◌, ◌≤◌, List, None, false, length, Err, IfErr, IfOk, IfSome, OnOk};
+ghost use Rattle.std.specs.Prelude.{◌≡◌, ◌⊎◌, ◌↔◌, ◌+◌, ◌*◌, ◌%◌, ◌<◌, ◌≤◌, List, None, false, length, Err, IfErr, IfOk, IfSome, MatchOption, OnOk};
 ghost use Rattle.dstm_cells.specs.Cells.{WantsRoom};
 ghost use Rattle.dstm_cells.specs.UnderWay.{MayBegin};
 ghost use Rattle.dstm_cells.specs.declared.error.Failed.TheVariants as failed;
@@ -40,6 +40,20 @@ impl<T: Word> Pool<T> {
         };
         Ok(Pool {
             cells,
+            holds: PhantomData,
+        })
+    }
+
+    /// The pool whose cells have the numbers from this one on, if it has so many: there are two for each.
+    pub fn at(first: u32, capacity: u32) -> Option<Pool<T>>
+        ensures { MatchOption result ((capacity ≡ 0) ⊎ (524288 < first + 2 * capacity))
+            (λ pool. (pool.cells.first ≡ first) × (pool.cells.capacity ≡ capacity)) }
+    {
+        if capacity == 0 || capacity > MOST_CELLS / 2 || first > MOST_CELLS - 2 * capacity {
+            return None;
+        }
+        Some(Pool {
+            cells: Stock { first, capacity },
             holds: PhantomData,
         })
     }

@@ -1,5 +1,5 @@
 // A queue in the cells of a memory.
-ghost use Rattle.std.specs.Prelude.{◌≡◌, ◌⊎◌, ◌↔◌, ◌+◌, ◌<◌, List, false, true, length, Err, IfErr, IfOk, OnOk};
+ghost use Rattle.std.specs.Prelude.{◌≡◌, ◌⊎◌, ◌↔◌, ◌+◌, ◌<◌, List, false, true, length, Err, IfErr, IfOk, MatchOption, OnOk};
 ghost use Rattle.dstm_cells.specs.Cells.{WantsRoom};
 ghost use Rattle.dstm_cells.specs.UnderWay.{MayBegin, stop_by};
 ghost use Rattle.dstm_cells.specs.declared.error.Failed.TheVariants as failed;
@@ -41,6 +41,21 @@ impl<T: Word> Queue<T> {
         };
         Ok(Queue {
             cells,
+            holds: PhantomData,
+        })
+    }
+
+    /// The queue whose cells have the numbers from this one on, if so many values have room in them: there is one for each, and
+    /// one more.
+    pub fn at(first: u32, capacity: u32) -> Option<Queue<T>>
+        ensures { MatchOption result ((capacity ≡ 0) ⊎ (524288 < first + capacity + 1))
+            (λ queue. (queue.cells.first ≡ first) × (queue.cells.capacity ≡ capacity)) }
+    {
+        if capacity == 0 || capacity >= MOST_CELLS || first > MOST_CELLS - 1 - capacity {
+            return None;
+        }
+        Some(Queue {
+            cells: Ring { first, capacity },
             holds: PhantomData,
         })
     }

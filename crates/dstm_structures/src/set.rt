@@ -1,5 +1,5 @@
 // An ordered set in the cells of a memory.
-ghost use Rattle.std.specs.Prelude.{◌≡◌, ◌⊎◌, ◌↔◌, ◌+◌, ◌*◌, ◌<◌, List, false, length, Err, IfErr, IfOk, OnOk};
+ghost use Rattle.std.specs.Prelude.{◌≡◌, ◌⊎◌, ◌↔◌, ◌+◌, ◌*◌, ◌<◌, List, false, length, Err, IfErr, IfOk, MatchOption, OnOk};
 ghost use Rattle.dstm_cells.specs.Cells.{WantsRoom};
 ghost use Rattle.dstm_cells.specs.UnderWay.{MayBegin};
 ghost use Rattle.dstm_cells.specs.declared.error.Failed.TheVariants as failed;
@@ -60,6 +60,16 @@ impl OrderedSet {
     {
         let map = OrderedMap::new(memory, capacity)?;
         Ok(OrderedSet { map })
+    }
+
+    /// The set whose cells have the numbers from this one on, if so many keys have room in them: there are three for each, and
+    /// one more.
+    pub fn at(first: u32, capacity: u32) -> Option<OrderedSet>
+        ensures { MatchOption result ((capacity ≡ 0) ⊎ (524288 < first + 3 * capacity + 1))
+            (λ set. (set.map.map.cells.first ≡ first) × (set.map.map.cells.capacity ≡ capacity)) }
+    {
+        let map = OrderedMap::at(first, capacity)?;
+        Some(OrderedSet { map })
     }
 
     /// How many keys it has room for.
