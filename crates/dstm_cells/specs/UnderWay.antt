@@ -1,5 +1,5 @@
 -- What a call on a transaction under way leaves. The words of its attempts are those of each engine.
-use Rattle.std.specs.Prelude.{◌≡◌, ℕ, ◌≤◌, Bool, true, false, List, Result, Err}
+use Rattle.std.specs.Prelude.{◌≡◌, ℕ, ◌≤◌, Bool, true, false, List, Result, Err, Ok}
 use Rattle.dstm_model.specs.declared.value.Val.{Val}
 use Rattle.dstm_tables.specs.declared.tables.Caller.{Caller}
 use Rattle.dstm_attempts.specs.declared.error.NotOpened.{NotOpened}
@@ -13,6 +13,11 @@ pub use Rattle.dstm_attempts.specs.Attempts.{AddsNothing, Exchanges, Finds, IsUn
 -- a stop for this reason
 abbrev pub stop_by : Why → Stop
 stop_by why = record { why = why }
+
+-- what a closure has answered, where it is told why it has stopped
+abbrev pub answer_by : {R : Type 0} → Result R Why → Result R Stop
+answer_by (Ok answer) = Ok answer
+answer_by (Err why) = Err (stop_by why)
 
 -- how a closure hands out why an object was not opened: an attempt that is over is made again
 abbrev pub stop_for : NotOpened → Stop

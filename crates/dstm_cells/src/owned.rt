@@ -1,11 +1,12 @@
 // A transaction that has no lifetime, and the calls of who makes its attempts: no closure is given one.
 ghost use Rattle.std.specs.Prelude.{◌++◌, ◌≡◌, ◌≢◌, ◌≤◌, ◌<◌, List, [], ◌∷◌, length, true, false, Err, IfErr, IfOk, Ok, OnOk};
 ghost use Rattle.std.specs.Arc.{arc_value};
+ghost use Rattle.std.specs.Fn.{FnOnceReturnsAtMut};
 ghost use Rattle.dstm_attempts.specs.Attempts.{AddsNothing, Begins, BeginsNone, Exchanges, Finds, IsAbandoned, IsClosed, IsLost, IsQuit, IsSpent, Keeps, LooksChanged, LooksOnce, LooksSame, LooksSpent, MayBegin, Opens, StoodTogether, TakesEffect, begun, clock, is_under_way, objects_of, renewed};
 ghost use Rattle.dstm_attempts.specs.Waiting.{FindsChange, HasNoRoom, IsSpentLettingGo, LetsGo};
 ghost use Rattle.dstm_attempts.specs.declared.error.Look.TheVariants as look;
 ghost use Rattle.dstm_cells.specs.Alternatives.{HasSetBack, Notes, StopsUndoing, Undoes, noting, settings};
-ghost use Rattle.dstm_cells.specs.UnderWay.{RefusesFor, StopsChange, StopsLook};
+ghost use Rattle.dstm_cells.specs.UnderWay.{RefusesFor, StopsChange, StopsLook, answer_by};
 ghost use Rattle.dstm_cells.specs.declared.error.GaveUp.TheVariants.{Spent};
 ghost use Rattle.dstm_cells.specs.declared.under_way.Undo.{Undo};
 ghost use Rattle.dstm_model.specs.declared.value.Val.{Val};
@@ -111,6 +112,20 @@ impl Owned {
     {
         match self.change(object, |_| value) {
             Ok(had) => Ok(had),
+            Err(Stop { why }) => Err(why),
+        }
+    }
+
+    /// Calls a closure on the transaction, and tells why it has stopped, where it has.
+    #[inline]
+    pub fn call<R: Drop, F>(&mut self, f: F) -> Result<R, Why>
+    where
+        F: FnOnce(&mut Owned) -> Result<R, Stop>,
+        requires callable { F.IsAlwaysCallable f }
+        ensures { FnOnceReturnsAtMut F.FnOnce f self.old (answer_by result) self.new }
+    {
+        match f(self) {
+            Ok(answer) => Ok(answer),
             Err(Stop { why }) => Err(why),
         }
     }
