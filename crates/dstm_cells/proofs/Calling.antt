@@ -48,6 +48,11 @@ module _ {X F R : Type 0} where
     keeps = keeps f n p.now q.now found (called_at g f n p q found called);
   }
 
+-- what holds of an answer where something is so
+pub where_so : {R E C : Type 0} (answer : Result R E) (P : R → Type 0) → C → IfOk answer (λ r. C → P r) → IfOk answer P
+where_so (Ok r) P so holds = holds so
+where_so (Err e) P so holds = tt
+
 -- what holds whatever an error is
 pub if_err : {R E X : Type 0} (answer : Result R E) → X → IfErr answer (λ _. X)
 if_err (Ok r) x = tt

@@ -37,6 +37,12 @@ module _ {X L F R : Type 0} (caller : X → Caller L) where
           (f n : F) (old new : X) (answer : R) → CalledAtMut g f old (Ok answer) n new → IsUntouched (caller old) →
           LeavesLawful holds (caller new)
 
+      -- each answer that commits does, where some do
+      abbrev pub IsLawfulWhere : (commits : R → Bool) → Type 0
+      IsLawfulWhere commits =
+          (f n : F) (old new : X) (answer : R) → commits answer ≡ true → CalledAtMut g f old (Ok answer) n new →
+          IsUntouched (caller old) → LeavesLawful holds (caller new)
+
       -- the closure was called on an attempt that had just begun, and answered this; it left the attempt that it was given
       pub record CalledFrom (k : Caller L) (f : F) (answer : Result R Stop) (after : F) : Type 0 where
         pub began : X

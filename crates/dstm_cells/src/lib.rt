@@ -5,6 +5,7 @@
 mod alternatives;
 mod back_off;
 mod cell;
+mod ending;
 mod error;
 mod holds;
 mod memory;

@@ -1,12 +1,13 @@
 // A thread's part in a run.
-ghost use Rattle.std.specs.Prelude.{◌≡◌, true, false, IfErr, IfOk};
+ghost use Rattle.std.specs.Prelude.{◌≡◌, true, false, IfErr, IfOk, is_ok};
 ghost use Rattle.dstm_attempts.specs.Attempts.{IsLost, IsQuit};
 ghost use Rattle.dstm_cells.specs.Attempts.{IsLeft};
-ghost use Rattle.dstm_cells.specs.Closures.{GaveUpFor, GaveUpResting, IsLawful, KeepsEach, KeepsPatience, TookEffect, Viewed};
+ghost use Rattle.dstm_cells.specs.Closures.{GaveUpFor, GaveUpResting, IsLawful, IsLawfulWhere, KeepsEach, KeepsPatience, TookEffect, Viewed};
 ghost use Rattle.dstm_cells.specs.UnderWay.{AddsNothing, Keeps, LeavesLawful, TakesEffect};
 ghost use Rattle.dstm_tables.specs.Callers.{home_of};
 
 use crate::back_off::BackOff;
+use crate::ending::{Commits, CommitsOk, Ending, Leaves};
 use crate::error::{GaveUp, Stop};
 use crate::rest::{Rest, Yields};
 use crate::transaction::Transaction;
@@ -66,7 +67,7 @@ impl<X: Transaction> Part<'_, X> {
         ensures quit { IsQuit (X.caller self.old.tx) → IsQuit (X.caller self.new.tx) }
         ensures patience { KeepsPatience X.patience F.FnMut → X.patience self.new.tx ≡ X.patience self.old.tx }
     {
-        self.make(f, true, &mut Yields)
+        self.make(f, Commits, &mut Yields)
     }
 
     /// As `atomically`, and between two looks, and wherever else it lets others run, the thread rests as it is told here:
@@ -86,7 +87,7 @@ impl<X: Transaction> Part<'_, X> {
         ensures quit { IsQuit (X.caller self.old.tx) → IsQuit (X.caller self.new.tx) }
         ensures patience { KeepsPatience X.patience F.FnMut → X.patience self.new.tx ≡ X.patience self.old.tx }
     {
-        self.make(f, true, rest)
+        self.make(f, Commits, rest)
     }
 
     /// Looks at the memory: calls the closure, and again, until an attempt was under way to its end. What it was told stood
@@ -104,7 +105,7 @@ impl<X: Transaction> Part<'_, X> {
         ensures quit { IsQuit (X.caller self.old.tx) → IsQuit (X.caller self.new.tx) }
         ensures patience { KeepsPatience X.patience F.FnMut → X.patience self.new.tx ≡ X.patience self.old.tx }
     {
-        self.make(f, false, &mut Yields)
+        self.make(f, Leaves, &mut Yields)
     }
 
     /// As `view`, and the thread rests as it is told here.
@@ -120,20 +121,48 @@ impl<X: Transaction> Part<'_, X> {
         ensures quit { IsQuit (X.caller self.old.tx) → IsQuit (X.caller self.new.tx) }
         ensures patience { KeepsPatience X.patience F.FnMut → X.patience self.new.tx ≡ X.patience self.old.tx }
     {
-        self.make(f, false, rest)
+        self.make(f, Leaves, rest)
+    }
+
+    /// Makes a transaction that its closure may leave with a value of its own. Where the last call answers `Ok(Ok(..))`, what it did
+    /// has taken effect, as by `atomically`; where it answers `Ok(Err(..))`, nothing that it has set has, and what it was told
+    /// stood together, as by `view`. The answer is that of the last call.
+    pub fn attempt<R: Drop, E: Drop, F>(&mut self, f: F) -> Result<Result<R, E>, GaveUp>
+    where
+        F: FnMut(&mut X) -> Result<Result<R, E>, Stop>,
+        requires callable { F.IsAlwaysCallable f }
+        requires lawful { IsLawfulWhere X.caller F.FnMut X.Rule.holds is_ok }
+        ensures took { KeepsEach X.caller F.FnMut → IfOk result (λ answer. is_ok answer ≡ true →
+            TookEffect X.caller F.FnMut X.Rule.holds X.patience (X.caller self.old.tx) f (X.caller self.new.tx) answer) }
+        ensures left { KeepsEach X.caller F.FnMut → IfOk result (λ answer. is_ok answer ≡ false →
+            Viewed X.caller F.FnMut X.Rule.holds X.patience (X.caller self.old.tx) f (X.caller self.new.tx) answer) }
+        ensures nothing { KeepsEach X.caller F.FnMut →
+            IfErr result (λ _. AddsNothing (X.caller self.old.tx) (X.caller self.new.tx)) }
+        ensures why { KeepsEach X.caller F.FnMut →
+            IfErr result (GaveUpFor X.caller F.FnMut X.Rule.holds X.patience (X.caller self.old.tx) f (X.caller self.new.tx)) }
+        ensures home { KeepsEach X.caller F.FnMut → home_of (X.caller self.new.tx) ≡ home_of (X.caller self.old.tx) }
+        ensures quit { IsQuit (X.caller self.old.tx) → IsQuit (X.caller self.new.tx) }
+        ensures patience { KeepsPatience X.patience F.FnMut → X.patience self.new.tx ≡ X.patience self.old.tx }
+    {
+        self.make(f, CommitsOk, &mut Yields)
     }
 
     // Calls the closure on attempts, one after the other, until one has ended well, by its commit or by being left.
     #[inline(always)]
-    fn make<R: Drop, S: Rest, F>(&mut self, f: F, commits: bool, rest: &mut S) -> Result<R, GaveUp>
+    fn make<R: Drop, E: Ending<R> + Drop, S: Rest, F>(
+        &mut self,
+        f: F,
+        ending: E,
+        rest: &mut S,
+    ) -> Result<R, GaveUp>
     where
         F: FnMut(&mut X) -> Result<R, Stop>,
         requires callable { F.IsAlwaysCallable f }
-        requires lawful { commits ≡ true → IsLawful X.caller F.FnMut X.Rule.holds }
-        ensures took { commits ≡ true → KeepsEach X.caller F.FnMut →
-            IfOk result (TookEffect X.caller F.FnMut X.Rule.holds X.patience (X.caller self.old.tx) f (X.caller self.new.tx)) }
-        ensures viewed { commits ≡ false → KeepsEach X.caller F.FnMut →
-            IfOk result (Viewed X.caller F.FnMut X.Rule.holds X.patience (X.caller self.old.tx) f (X.caller self.new.tx)) }
+        requires lawful { IsLawfulWhere X.caller F.FnMut X.Rule.holds E.commits }
+        ensures took { KeepsEach X.caller F.FnMut → IfOk result (λ answer. E.commits answer ≡ true →
+            TookEffect X.caller F.FnMut X.Rule.holds X.patience (X.caller self.old.tx) f (X.caller self.new.tx) answer) }
+        ensures left { KeepsEach X.caller F.FnMut → IfOk result (λ answer. E.commits answer ≡ false →
+            Viewed X.caller F.FnMut X.Rule.holds X.patience (X.caller self.old.tx) f (X.caller self.new.tx) answer) }
         ensures nothing { KeepsEach X.caller F.FnMut →
             IfErr result (λ _. AddsNothing (X.caller self.old.tx) (X.caller self.new.tx)) }
         ensures why { KeepsEach X.caller F.FnMut →
@@ -151,7 +180,7 @@ impl<X: Transaction> Part<'_, X> {
             self.tx.begin()?;
             match f(&mut self.tx) {
                 Ok(answer) => {
-                    if end(&mut self.tx, commits) {
+                    if end(&mut self.tx, ending.commits(&answer)) {
                         self.back_off.settle();
                         return Ok(answer);
                     }

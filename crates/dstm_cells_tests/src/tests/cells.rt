@@ -1,7 +1,7 @@
 // Each call once, by both engines, and what no clause says.
 use crate::tests::plain::{
     Adding, Change, Choice, Part, Setting, Trial, atomically, cell_of, choose, get, held,
-    memory_by, run, set, tries,
+    memory_by, run, run_each, set, tries,
 };
 use dstm_cells::{
     Cell, Engine, Failed, GaveUp, Manager, Me, Memory, Stop, Tx, Word, ensure, retry,
@@ -113,6 +113,38 @@ fn a_cell_is_set_between_runs(rt: HostRuntime) -> Result<(), Fail> {
     assert!(rt; held(&memory, cell) == Ok(4));
     let mut other = Memory::new(rt.alloc());
     assert!(rt; other.set(cell, 5) == Err(Failed::Foreign));
+    Ok(())
+}
+
+// It adds one, but where it finds five or more it is left with what it has found.
+#[derive(Drop)]
+struct Limited {
+    count: Cell<u64>,
+}
+
+impl Part for Limited {
+    type Answer = Result<u64, u64>;
+
+    fn play(&self, me: &mut Me<'_>, _number: usize) -> Result<Result<u64, u64>, GaveUp> {
+        let count = self.count;
+        me.attempt(|tx| {
+            let found = tx.update(count, |n| n.wrapping_add(1))?;
+            Ok(if found < 5 { Ok(found) } else { Err(found) })
+        })
+    }
+}
+
+#[test]
+fn a_transaction_is_left_with_a_value(rt: HostRuntime) -> Result<(), Fail> {
+    let alloc = rt.alloc();
+    for manager in [None, Some(Manager::Greedy)] {
+        let mut memory = memory_by(alloc, manager);
+        let count = cell_of(&mut memory, 3u64)?;
+        let told = run_each(&rt, &mut memory, 4, &Limited { count })?;
+        assert!(rt; told.iter().filter(|answer| answer.is_ok()).count() == 2);
+        assert!(rt; told.iter().filter(|answer| **answer == Err(5)).count() == 2);
+        assert!(rt; held(&memory, count) == Ok(5));
+    }
     Ok(())
 }
 

@@ -21,7 +21,7 @@ end-requires g c =
     let call = called_at g.F.FnMut c.loop-number.f c.f.new.self _ _ _ c.f.ensures in
     record {
       lawful = λ commits.
-          c.requires.lawful commits c.loop-number.f c.f.new.self c.begin.new.self c.f.new.arg2 _
+          c.requires.lawful c.loop-number.f c.f.new.self c.begin.new.self c.f.new.arg2 _ (sym c.commits.ensures ∙ commits)
           (subst (λ r. CalledAtMut g.F.FnMut c.loop-number.f c.begin.new.self r c.f.new.self c.f.new.arg2) c.in-Ok.is call)
           c.in_ok-begin.ensures.begins.untouched;
     }
@@ -51,15 +51,15 @@ called_nothing g c keeps =
     (adds_nothing (caller c.begin.new.self) (caller c.f.new.arg2) (keeps _ _ _ _ _ call)))
 
 pub returns-then-end-clause-took : goal.returns-then-end-clause-took
-returns-then-end-clause-took g c commits keeps = record {
+returns-then-end-clause-took g c keeps commits = record {
   last = reached g (goal.at.returns-then-end-clause-took g c).After-f keeps _ c.in-Ok.is;
-  takes = c.end.ensures.takes commits c.if-end.true;
+  takes = c.end.ensures.takes (c.commits.ensures ∙ commits) c.if-end.true;
 }
 
-pub returns-then-end-clause-viewed : goal.returns-then-end-clause-viewed
-returns-then-end-clause-viewed g c commits keeps =
-    let after = (goal.at.returns-then-end-clause-viewed g c).After-f in
-    let left = c.end.ensures.leaves commits in
+pub returns-then-end-clause-left : goal.returns-then-end-clause-left
+returns-then-end-clause-left g c keeps commits =
+    let after = (goal.at.returns-then-end-clause-left g c).After-f in
+    let left = c.end.ensures.leaves (c.commits.ensures ∙ commits) in
     record {
       last = reached g after keeps _ c.in-Ok.is;
       left = subst (λ live. IsLeft g.X.Rule.Law.holds live (g.X.Transaction.caller c.f.new.arg2) (g.X.Transaction.caller c.end.new.tx)) c.if-end.true left;

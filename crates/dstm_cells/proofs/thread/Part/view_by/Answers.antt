@@ -1,7 +1,10 @@
 use Rattle.std.proofs.Common.{refl}
-use Rattle.dstm_cells.proofs.Calling.{either_way}
+use Rattle.dstm_cells.proofs.Calling.{either_way, where_so}
 use Rattle.dstm_cells.proofs.thread.Part.view_by.Goals as goal
 
 pub returns-clause-nothing : goal.returns-clause-nothing
 returns-clause-nothing g c keeps =
-    either_way c.make.result _ (c.make.ensures.viewed refl keeps) (λ answer viewed. viewed.nothing) (c.make.ensures.nothing keeps)
+    either_way c.make.result _ (c.make.ensures.left keeps) (λ answer left. (left refl).nothing) (c.make.ensures.nothing keeps)
+
+pub returns-clause-viewed : goal.returns-clause-viewed
+returns-clause-viewed g c keeps = where_so c.make.result _ refl (c.make.ensures.left keeps)
