@@ -1,5 +1,5 @@
 // What maps and sets have between runs.
-ghost use Rattle.std.specs.Prelude.{◌≡◌, ◌<◌, length, map, true, IfErr, IfOk};
+ghost use Rattle.std.specs.Prelude.{◌≡◌, ◌↔◌, ◌<◌, ◌≤◌, length, map, true, Err, IfErr, IfOk, OnOk};
 ghost use Rattle.dstm_cells.specs.declared.error.Failed.TheVariants as failed;
 ghost use Rattle.dstm_structures.specs.Items.{AreItems, Lists};
 ghost use Rattle.dstm_structures.specs.Looks.{FailsBetween};
@@ -18,8 +18,10 @@ impl<V: Word> HashMap<V> {
     /// What it has for a key between runs. The memory has to be the one of the map, or have as many cells.
     pub fn read<L: Law + Copy>(self, memory: &Memory<L>, key: u64) -> Result<Option<V>, Failed>
         ensures reads { IfOk result (λ answer. answer ≡ item_of V.found self memory.now.values.items key) }
-        ensures foreign { IfErr result (λ why. (length memory.now.values.items < end_of self) × (why ≡ failed.Foreign)) }
+        ensures foreign { result ≡ Err failed.Foreign ↔ length memory.now.values.items < end_of self }
+        ensures fails { IfErr result (λ why. why ≡ failed.Foreign) }
     {
+        self.lies_in(memory)?;
         let answer = self.item_by(&mut Between { memory }, key)?;
         Ok(answer)
     }
@@ -32,10 +34,21 @@ impl<V: Word> HashMap<V> {
     ) -> Result<Vec<(u64, V)>, Failed>
         ensures lists { IfOk result (λ items.
             Lists V.found self items.items memory.now.values.items memory.now.values.items) }
+        ensures foreign { result ≡ Err failed.Foreign ↔ length memory.now.values.items < end_of self }
         ensures fails { IfErr result (FailsBetween true (end_of self) (length memory.now.values.items)) }
     {
+        self.lies_in(memory)?;
         let items = self.items_by(&mut Between { memory }, alloc)?;
         Ok(items)
+    }
+
+    // The memory has all its cells, which stand side by side: it has the last one.
+    fn lies_in<L: Law + Copy>(self, memory: &Memory<L>) -> Result<(), Failed>
+        ensures all { OnOk result (end_of self ≤ length memory.now.values.items) }
+        ensures foreign { IfErr result (λ why. (length memory.now.values.items < end_of self) × (why ≡ failed.Foreign)) }
+    {
+        let _last = memory.get(self.value_at(self.cells.capacity - 1))?;
+        Ok(())
     }
 }
 
@@ -43,7 +56,8 @@ impl<V: Word> OrderedMap<V> {
     /// What it has for a key between runs. The memory has to be the one of the map, or have as many cells.
     pub fn read<L: Law + Copy>(self, memory: &Memory<L>, key: u64) -> Result<Option<V>, Failed>
         ensures reads { IfOk result (λ answer. answer ≡ item_of V.found self.map memory.now.values.items key) }
-        ensures foreign { IfErr result (λ why. (length memory.now.values.items < end_of self.map) × (why ≡ failed.Foreign)) }
+        ensures foreign { result ≡ Err failed.Foreign ↔ length memory.now.values.items < end_of self.map }
+        ensures fails { IfErr result (λ why. why ≡ failed.Foreign) }
     {
         self.map.read(memory, key)
     }
@@ -55,6 +69,7 @@ impl<V: Word> OrderedMap<V> {
         alloc: Global,
     ) -> Result<Vec<(u64, V)>, Failed>
         ensures lists { IfOk result (λ items. AreItems V.found self items.items memory.now.values.items) }
+        ensures foreign { result ≡ Err failed.Foreign ↔ length memory.now.values.items < end_of self.map }
         ensures fails { IfErr result (FailsBetween true (end_of self.map) (length memory.now.values.items)) }
     {
         let mut items = self.map.read_all(memory, alloc)?;
@@ -67,8 +82,8 @@ impl OrderedSet {
     /// Tells whether a key is in the set between runs. The memory has to be the one of the set, or have as many cells.
     pub fn read<L: Law + Copy>(self, memory: &Memory<L>, key: u64) -> Result<bool, Failed>
         ensures reads { IfOk result (λ answer. answer ≡ is_in self memory.now.values.items key) }
-        ensures foreign { IfErr result (λ why.
-            (length memory.now.values.items < end_of self.map.map) × (why ≡ failed.Foreign)) }
+        ensures foreign { result ≡ Err failed.Foreign ↔ length memory.now.values.items < end_of self.map.map }
+        ensures fails { IfErr result (λ why. why ≡ failed.Foreign) }
     {
         let answer = self.map.read(memory, key)?;
         Ok(answer.is_some())
@@ -81,6 +96,7 @@ impl OrderedSet {
         alloc: Global,
     ) -> Result<Vec<u64>, Failed>
         ensures lists { IfOk result (λ keys. AreKeys self keys.items memory.now.values.items) }
+        ensures foreign { result ≡ Err failed.Foreign ↔ length memory.now.values.items < end_of self.map.map }
         ensures fails { IfErr result (FailsBetween true (end_of self.map.map) (length memory.now.values.items)) }
     {
         let items = self.map.read_all(memory, alloc)?;
