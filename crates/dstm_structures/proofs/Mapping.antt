@@ -663,8 +663,8 @@ module _ {V : Type 0} (found : Val → V) (map : HashMap V) where
         ∙ get_or-append-add before (replicate cells kept) x no_value
         ∙ get_or-replicate cells x kept no_value less
 
-    none : (h : ℕ) → h < m → reach_at map after h ≡ 0
-    none h here =
+    pub made-near : (h : ℕ) → h < m → reach_at map after h ≡ 0
+    made-near h here =
         ap (λ (v : Val). cond (nat_lt (reach_of v) m) (reach_of v) m)
         (made-each (2 * h) (f + 2 * h) (omega (arith, here, many)) refl)
         ∙ zero_reach (reach_of kept) (ap (λ (x : ℕ). x / 4294967296) high)
@@ -677,7 +677,7 @@ module _ {V : Type 0} (found : Val → V) (map : HashMap V) where
 
     pub made-unplaced : (key : ℕ) → place_in f m after key ≡ None
     made-unplaced key =
-        ap (λ (r : ℕ). find m (key_at map after) key (home_in m key) 0 r) (none (home_in m key) (home-within m some key))
+        ap (λ (r : ℕ). find m (key_at map after) key (home_in m key) 0 r) (made-near (home_in m key) (home-within m some key))
 
     pub made-empty : (key : ℕ) → item_of found map after key ≡ None
     made-empty key = ap (at_place (values_in found f after)) (made-unplaced key)
@@ -695,4 +695,5 @@ module _ {V : Type 0} (found : Val → V) (map : HashMap V) where
         cells = made-cells cells kept whole start count;
         empty = made-empty cells kept before after whole high start many some;
         free = made-free cells kept before after whole high start many some;
+        near = made-near cells kept before after whole high start many some;
       }

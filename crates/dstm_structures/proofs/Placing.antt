@@ -16,7 +16,7 @@ use Rattle.dstm_structures.specs.declared.map.Placed.TheVariants.{New, Instead, 
 use Rattle.dstm_structures.specs.declared.ordered.OrderedMap.{OrderedMap}
 use Rattle.dstm_structures.proofs.Counting.{not-on-all}
 use Rattle.dstm_structures.proofs.Doing.{Reads, Writes}
-use Rattle.dstm_structures.proofs.Mapping.{made-cells, made-each, made-empty, made-free, made-unplaced, takes-out, tells-some}
+use Rattle.dstm_structures.proofs.Mapping.{made-cells, made-each, made-empty, made-free, made-near, made-unplaced, takes-out, tells-some}
 use Rattle.dstm_structures.proofs.Mapping as mapping
 use Rattle.dstm_structures.proofs.Maps.{item-same, place-holds, place-kept}
 use Rattle.dstm_structures.proofs.InOrder.{forks-apart, holds-by, no-place, order-apart}
@@ -48,6 +48,7 @@ module _ {V : Type 0} (found : Val → V) (map : OrderedMap V) where
           none = made-unplaced found map.map cells kept before after whole high start many some;
         });
         free = made-free found map.map cells kept before after whole high start many some;
+        near = made-near found map.map cells kept before after whole high start many some;
         forks = λ at here. ap (λ (v : Val). (words_of v).1)
             (made-each found map.map cells kept before after whole high start many some (2 * n + 1 + at) (f + 2 * n + 1 + at)
             (omega (arith, count, here)) (omega arith)) ∙ high;

@@ -24,6 +24,7 @@ module _ (set : OrderedSet) where
     empty = λ key. ap is_some (a.empty key);
     order = a.order;
     free = a.free;
+    near = a.near;
     forks = a.forks;
   }
 

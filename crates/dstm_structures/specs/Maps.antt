@@ -219,9 +219,10 @@ module _ {V : Type 0} (found : Val → V) (map : HashMap V) where
   Removes key None before after = Tells key None before after
   Removes key (Some had) before after = Makes key None (Some had) before after
 
-  -- an empty map has got the objects behind those before
+  -- an empty map has got the objects behind those before, and no key is looked for in it
   pub record Adds (before after : List Val) : Type 0 where
     pub cells : AddsCells map.cells.first (2 * map.cells.capacity) before after
     pub open cells use *
     pub empty : (key : ℕ) → item_of after key ≡ None
     pub free : (at : ℕ) → at < map.cells.capacity → key_at map after at ≡ None
+    pub near : (home : ℕ) → home < map.cells.capacity → reach_at map after home ≡ 0

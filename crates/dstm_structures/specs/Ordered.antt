@@ -3,7 +3,7 @@ use Rattle.std.specs.Prelude.{◌≡◌, ◌≢◌, ◌⊎◌, ℕ, ◌+◌, ◌
 use Rattle.dstm_model.specs.declared.value.Val.{Val}
 use Rattle.dstm_model.specs.Map.{value_at}
 use Rattle.dstm_structures.specs.Added.{AddsCells}
-use Rattle.dstm_structures.specs.Maps.{Tells, WastesNone, item_of, key_at, place_in, values_in}
+use Rattle.dstm_structures.specs.Maps.{Tells, WastesNone, item_of, key_at, place_in, reach_at, values_in}
 use Rattle.dstm_structures.specs.Orders.{IsOrdered, forks_in, order_end}
 use Rattle.dstm_structures.specs.Tips as tips
 use Rattle.dstm_structures.specs.declared.map.Placed.{Placed}
@@ -172,11 +172,13 @@ module _ {V : Type 0} (found : Val → V) (map : OrderedMap V) where
   abbrev pub PopsLast : Option (ℕ × V) → List Val → List Val → Type 0
   PopsLast = PopsEnd true
 
-  -- an empty map, in order, has got the objects behind those before, and each of its places and forks is free
+  -- an empty map, in order, has got the objects behind those before, and each of its places and forks is free;
+  -- no key is looked for in it
   pub record Adds (before after : List Val) : Type 0 where
     pub cells : AddsCells map.map.cells.first (3 * map.map.cells.capacity + 1) before after
     pub open cells use *
     pub empty : (key : ℕ) → item_of found map.map after key ≡ None
     pub order : IsInOrder map after
     pub free : (at : ℕ) → at < map.map.cells.capacity → key_at map.map after at ≡ None
+    pub near : (home : ℕ) → home < map.map.cells.capacity → reach_at map.map after home ≡ 0
     pub forks : (at : ℕ) → at < map.map.cells.capacity → (forks_in map.map.cells.first map.map.cells.capacity after at).1 ≡ 0

@@ -3,7 +3,7 @@ use Rattle.std.specs.Prelude.{◌≡◌, ◌≢◌, ◌⊎◌, ℕ, ◌+◌, ◌
 use Rattle.dstm_model.specs.declared.value.Val.{Val}
 use Rattle.dstm_structures.specs.Added.{AddsCells}
 use Rattle.dstm_structures.specs.Maps as maps
-use Rattle.dstm_structures.specs.Maps.{WastesNone, item_of, key_at}
+use Rattle.dstm_structures.specs.Maps.{WastesNone, item_of, key_at, reach_at}
 use Rattle.dstm_structures.specs.Ordered.{IsInOrder, KeepsOthers, TellsInOrder, WastesNoFork}
 use Rattle.dstm_structures.specs.Orders.{forks_in}
 use Rattle.dstm_structures.specs.declared.map.Placed.{Placed}
@@ -170,12 +170,14 @@ module _ (set : OrderedSet) where
   abbrev pub ListsAbove : (low most : ℕ) → List ℕ → List Val → List Val → Type 0
   ListsAbove low most keys = TellsInOrder set.map (AreKeysAbove low most keys)
 
-  -- an empty set, in order, has got the objects behind those before, and each of its places and forks is free
+  -- an empty set, in order, has got the objects behind those before, and each of its places and forks is free;
+  -- no key is looked for in it
   pub record Adds (before after : List Val) : Type 0 where
     pub cells : AddsCells set.map.map.cells.first (3 * set.map.map.cells.capacity + 1) before after
     pub open cells use *
     pub empty : (key : ℕ) → is_in after key ≡ false
     pub order : IsOrdered after
     pub free : (at : ℕ) → at < set.map.map.cells.capacity → key_at set.map.map after at ≡ None
+    pub near : (home : ℕ) → home < set.map.map.cells.capacity → reach_at set.map.map after home ≡ 0
     pub forks : (at : ℕ) → at < set.map.map.cells.capacity →
         (forks_in set.map.map.cells.first set.map.map.cells.capacity after at).1 ≡ 0
