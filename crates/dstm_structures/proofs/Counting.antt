@@ -10,12 +10,12 @@ use Rattle.dstm_structures.proofs.Tries.{has_within}
 -- ---- lists of numbers
 
 -- a number is one of these
-abbrev In : ℕ → List ℕ → Type 0
+abbrev pub In : ℕ → List ℕ → Type 0
 In c [] = ⊥
 In c (x ∷ xs) = (c ≡ x) ⊎ In c xs
 
 -- no number stands here twice
-abbrev AreApart : List ℕ → Type 0
+abbrev pub AreApart : List ℕ → Type 0
 AreApart [] = Unit {0}
 AreApart (x ∷ xs) = (In x xs → ⊥) × AreApart xs
 
@@ -39,7 +39,7 @@ take-out c (x ∷ xs) (inr later) = by (take-out c xs later)
         keeps d (inr there) apart = inr (on d there apart)
 
 -- numbers that are apart, and all among others, are no more than those
-no-more : (xs ys : List ℕ) → AreApart xs → ((c : ℕ) → In c xs → In c ys) → length xs ≤ length ys
+pub no-more : (xs ys : List ℕ) → AreApart xs → ((c : ℕ) → In c xs → In c ys) → length xs ≤ length ys
 no-more [] ys apart among = omega arith
 no-more (x ∷ xs) ys apart among =
     let rest = take-out x ys (among x (inl refl)) in

@@ -21,6 +21,7 @@ pub mod Placing
 pub mod Powers
 pub mod Queues
 pub mod Rising
+pub mod Rooms
 pub mod Sets
 pub mod Tipping
 pub mod Tries

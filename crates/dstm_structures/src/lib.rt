@@ -17,7 +17,7 @@ mod tips;
 mod updating;
 mod walks;
 
-pub use law::height_is_within_bits;
+pub use law::{height_is_within_bits, map_has_room, ordered_map_has_room, set_has_room};
 pub use map::{HashMap, Placed};
 pub use ordered::OrderedMap;
 pub use pool::Pool;
