@@ -1,5 +1,5 @@
 -- The cells of a memory, and the table on which threads change them.
-use Rattle.std.specs.Prelude.{◌≡◌, ◌≢◌, ◌⊎◌, ◌↔◌, ℕ, ◌+◌, ◌%◌, ◌^◌, ◌<◌, ◌≤◌, false, List, [], ◌∷◌, ◌++◌, length, Err, IfErr, IfOk, OnOk, Option, None, Result, Some}
+use Rattle.std.specs.Prelude.{◌≡◌, ◌≢◌, ◌⊎◌, ◌↔◌, ℕ, ◌+◌, ◌%◌, ◌^◌, ◌<◌, ◌≤◌, false, List, [], ◌∷◌, ◌++◌, length, replicate, Err, IfErr, IfOk, OnOk, Option, None, Result, Some}
 use Rattle.std.specs.Arc.{arc_value}
 use Rattle.dstm_model.specs.Map.{value_at}
 use Rattle.dstm_model.specs.declared.value.AnyLaw.{AnyLaw}
@@ -109,6 +109,13 @@ module _ (holds : AnyLaw → List Val → Type 0) where
     pub number : cell ≡ length before
     pub last : new.values.items ≡ before ++ (value ∷ [])
 
+  -- so many cells were made side by side behind them, from this one on
+  pub record GrowsBy (old new : Memory) (value : Val) (count first : ℕ) : Type 0 where
+    pub before : List Val
+    pub settled : HasSettled old before
+    pub number : first ≡ length before
+    pub last : new.values.items ≡ before ++ replicate count value
+
   -- a part is one of a new table, which was made of the values that the memory had when it had taken its values back
   pub record GivesNew (old : Memory) (part : Thread) : Type 0 where
     pub values : List Val
@@ -166,6 +173,15 @@ module _ (holds : AnyLaw → List Val → Type 0) where
   pub record MakesCell (value : Val) (old new : Memory) (answer : Result ℕ Code) : Type 0 where
     pub made : IfOk answer (Grows old new value)
     pub full : answer ≡ Err Full → length new.values.items ≡ 524288
+    pub why : IfErr answer (λ why. IsWithheld why ⊎ (why ≡ Full))
+    pub home : OnOk answer (new.home ≡ None)
+    pub kept : IfErr answer (λ _. KeepsCells old new)
+    pub terms : KeepsTerms old new
+
+  -- WHAT MAKING CELLS ANSWERS, side by side, and what it leaves
+  pub record MakesCells (value : Val) (count : ℕ) (old new : Memory) (answer : Result ℕ Code) : Type 0 where
+    pub made : IfOk answer (GrowsBy old new value count)
+    pub full : answer ≡ Err Full → 524288 < length new.values.items + count
     pub why : IfErr answer (λ why. IsWithheld why ⊎ (why ≡ Full))
     pub home : OnOk answer (new.home ≡ None)
     pub kept : IfErr answer (λ _. KeepsCells old new)

@@ -1,5 +1,7 @@
 -- A thread's part in a memory: what each call on it answers, and what it leaves.
-use Rattle.std.specs.Prelude.{◌≡◌, ◌≢◌, ◌⊎◌, ℕ, ◌<◌, ◌≤◌, ◌++◌, Bool, true, false, List, [], ◌∷◌, length, IfErr, IfOk, OnOk, Result, Err, if◌then◌else◌}
+use Rattle.std.specs.Prelude.{◌≡◌, ◌≢◌, ◌⊎◌, ℕ, ◌<◌, ◌≤◌, ◌++◌, Bool, true, false, List, [], ◌∷◌, length, IfErr, IfOk, OnOk, Result, Err, Ok, if◌then◌else◌}
+use denote.Ref.{MutBor}
+use Rattle.std.specs.Fn.{FnOnceReturnsAtMut, Once}
 use Rattle.dstm_model.specs.declared.value.AnyLaw.{AnyLaw}
 use Rattle.dstm_model.specs.declared.value.Val.{Val}
 use Rattle.dstm_tables.specs.Callers.{home_of}
@@ -9,6 +11,7 @@ use Rattle.dstm_cells.specs.Alternatives.{Notes, Undoes, noting}
 use Rattle.dstm_cells.specs.Alternatives as cells_undo
 use Rattle.dstm_cells.specs.UnderWay as cells
 use Rattle.dstm_cells.specs.UnderWay.{stop_by}
+use Rattle.dstm_cells.specs.declared.error.Stop.{Stop}
 use Rattle.dstm_cells.specs.declared.error.Why.{Why}
 use Rattle.dstm_cells.specs.declared.error.Why.TheVariants as why
 use Rattle.dstm_cells.specs.declared.under_way.Undo.{Undo}
@@ -112,13 +115,30 @@ pub record Enters (old new : Thread) (code : Code) : Type 0 where
   pub same : IsSame old new
   pub tells : (code ≡ Done) ⊎ (code ≡ Again)
 
-module _ (holds : AnyLaw → List Val → Type 0) where
-  -- a call on the transaction has stopped, for the cause that the code tells
-  pub record HasStopped (told : Why → Type 0) (code : Code) : Type 0 where
-    pub why : Why
-    pub is : code ≡ code_for why
-    pub stops : told why
+-- a call on the transaction has stopped, for the cause that the code tells
+pub record HasStopped (told : Why → Type 0) (code : Code) : Type 0 where
+  pub why : Why
+  pub is : code ≡ code_for why
+  pub stops : told why
 
+module _ {X F R : Type 0} (tx : Thread → X)
+    (g : Once F (MutBor X × Unit {0}) (Result R Stop × (MutBor X × Unit {0}))) (f : F) where
+  -- a closure was called on the transaction under way, and has answered this: nothing else was done
+  pub record HasCalled (old new : Thread) (answer : Result R Stop) : Type 0 where
+    pub may : MayCall old
+    pub called : FnOnceReturnsAtMut g f (tx old) answer (tx new)
+    pub begun : new.begun ≡ old.begun
+    pub waits : new.waits ≡ old.waits
+    pub since : new.since ≡ old.since
+
+  -- WHAT A CALL OF A CLOSURE on the transaction ANSWERS, and what it leaves
+  pub record CallsOnce (old new : Thread) (answer : Result R Code) : Type 0 where
+    pub refuses : RefusesAll old answer
+    pub answers : IfOk answer (λ told. HasCalled old new (Ok told))
+    pub stops : IfErr answer (λ code. WasRefused old new ⊎ HasStopped (λ why. HasCalled old new (Err (stop_by why))) code)
+    pub fails : IfErr answer (λ why. why ≢ Done)
+
+module _ (holds : AnyLaw → List Val → Type 0) where
   -- WHY A CALL THAT LOOKS AT A CELL STOPS, and what it leaves
   abbrev pub StopsLook : ℕ → Thread → Thread → Code → Type 0
   StopsLook cell old new code =

@@ -3,7 +3,7 @@ ghost use Rattle.std.specs.Prelude.{◌≡◌, ◌≢◌, ◌⊎◌, [], true, f
 ghost use Rattle.std.specs.Arc.{arc_value};
 ghost use Rattle.dstm_attempts.specs.Attempts.{AddsNothing, Begins, BeginsNone, IsClosed, LooksChanged, LooksOnce, LooksSame, LooksSpent, clock, goes_on, is_under_way};
 ghost use Rattle.dstm_tables.specs.Callers.{done, home_of};
-ghost use Rattle.dstm_handles.specs.Threads.{BeginsOr, Commits, Enters, Gets, GivesUp, HasBegun, HasNoneLeft, IsSame, Marks, MayCall, RefusesBy, Sets, UndoesTo, caller_of, code_for};
+ghost use Rattle.dstm_handles.specs.Threads.{BeginsOr, CallsOnce, Commits, Enters, Gets, GivesUp, HasBegun, HasNoneLeft, IsSame, Marks, MayCall, RefusesBy, Sets, UndoesTo, caller_of, code_for};
 ghost use Rattle.dstm_handles.specs.Waiting.{FindsChangeBefore, HasNoRoomBefore, IsSpentBefore, LetsGoBefore, Looks};
 ghost use Rattle.dstm_attempts.specs.declared.error.Look.TheVariants as look;
 ghost use Rattle.dstm_handles.specs.declared.code.Code.TheVariants.{Again, Done, Idle, Memory, Open, Spent};
@@ -11,7 +11,7 @@ ghost use Rattle.dstm_handles.specs.declared.code.Code.TheVariants.{Again, Done,
 use crate::code::Code;
 use crate::thread::Thread;
 use dstm_attempts::Look;
-use dstm_cells::{Courtesy, MOST_LOST, Owned, Turn, Why};
+use dstm_cells::{Courtesy, MOST_LOST, Owned, Stop, Turn, Why};
 use dstm_model::{AnyLaw, Law, Val};
 use dstm_tables::{Caller, Table};
 use std::alloc::{AllocError, Global};
@@ -137,6 +137,23 @@ impl Thread {
         }
         match self.tx.set_object(cell, value) {
             Ok(had) => Ok(had),
+            Err(why) => Err(code_of(why)),
+        }
+    }
+
+    /// Makes a call on a structure of cells.
+    #[inline]
+    pub fn on<R: Drop, F>(&mut self, f: F) -> Result<R, Code>
+    where
+        F: FnOnce(&mut Owned) -> Result<R, Stop>,
+        requires callable { F.IsAlwaysCallable f }
+        ensures { CallsOnce (λ t. t.tx) F.FnOnce f self.old self.new result }
+    {
+        if let Some(code) = self.refused() {
+            return Err(code);
+        }
+        match self.tx.call(f) {
+            Ok(answer) => Ok(answer),
             Err(why) => Err(code_of(why)),
         }
     }

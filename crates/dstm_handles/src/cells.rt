@@ -9,7 +9,7 @@ ghost use Rattle.dstm_tables.specs.Engines.{WorksBy};
 ghost use Rattle.dstm_tables.specs.Founders.{Enrols, founded};
 ghost use Rattle.dstm_tables.specs.Tables.{objects_there};
 ghost use Rattle.dstm_tables.specs.declared.tables.Caller.{Caller};
-ghost use Rattle.dstm_handles.specs.Memories.{EnrolsAtHome, EnrolsFirst, GivesAtHome, GivesOut, HasSettled, IsAt, IsWithheld, KeepsTerms, MakesCell, MakesMemory, Peeks, ReadsAll, StartsWith, StaysOut, table_at};
+ghost use Rattle.dstm_handles.specs.Memories.{EnrolsAtHome, EnrolsFirst, GivesAtHome, GivesOut, HasSettled, IsAt, IsWithheld, KeepsTerms, MakesCell, MakesCells, MakesMemory, Peeks, ReadsAll, StartsWith, StaysOut, table_at};
 ghost use Rattle.dstm_handles.specs.Threads.{MayCall, caller_of};
 ghost use Rattle.dstm_handles.specs.declared.code.Code.TheVariants.{Again, Done, Foreign, Full, Range, Spent};
 ghost use Rattle.dstm_handles.specs.declared.code.Code.TheVariants as code;
@@ -64,6 +64,24 @@ impl Memory {
         let cell = self.values.len() as u32;
         match self.values.push(value) {
             Ok(()) => Ok(cell),
+            Err(_) => Err(Code::Memory),
+        }
+    }
+
+    /// So many new cells side by side, which hold this: the number of the first one. No thread may have a part then.
+    pub fn cells(&mut self, value: Val, count: u32) -> Result<u32, Code>
+        ensures { MakesCells ⟦<AnyLaw as Law>⟧.holds value count self.old self.new result }
+    {
+        self.settle()?;
+        if count as usize > MOST_CELLS as usize - self.values.len() {
+            return Err(Code::Full);
+        }
+        let first = self.values.len() as u32;
+        let Ok(added) = vec![in self.alloc; value; count as usize] else {
+            return Err(Code::Memory);
+        };
+        match self.values.extend_from_slice(&added) {
+            Ok(()) => Ok(first),
             Err(_) => Err(Code::Memory),
         }
     }

@@ -1,14 +1,15 @@
 // What a handle stands for.
 ghost use Rattle.std.specs.Prelude.{◌≡◌, false, true, Err};
 ghost use Rattle.dstm_handles.specs.Held.{ByMemory, ByPart, IsIdle, IsMemory, IsPart};
-ghost use Rattle.dstm_handles.specs.Memories.{GivesOut, MakesCell, Peeks};
-ghost use Rattle.dstm_handles.specs.Threads.{BeginsOr, Commits, Enters, Gets, GivesUp, Marks, Sets, UndoesTo};
+ghost use Rattle.dstm_handles.specs.Memories.{GivesOut, MakesCell, MakesCells, Peeks};
+ghost use Rattle.dstm_handles.specs.Threads.{BeginsOr, CallsOnce, Commits, Enters, Gets, GivesUp, Marks, Sets, UndoesTo};
 ghost use Rattle.dstm_handles.specs.Waiting.{Looks};
 ghost use Rattle.dstm_handles.specs.declared.code.Code.TheVariants.{Closed};
 
 use crate::code::Code;
 use crate::memory::Memory;
 use crate::thread::Thread;
+use dstm_cells::{Owned, Stop};
 use dstm_model::{AnyLaw, Law, Val};
 
 /// What a handle stands for. A call that is not of its kind answers `Closed`.
@@ -40,6 +41,17 @@ impl Held {
     {
         match self {
             Held::Memory(memory) => memory.cell(value),
+            Held::Thread(_) => Err(Code::Closed),
+        }
+    }
+
+    /// `Memory::cells`.
+    pub fn cells(&mut self, value: Val, count: u32) -> Result<u32, Code>
+        ensures { ByMemory (λ old new. MakesCells ⟦<AnyLaw as Law>⟧.holds value count old new result) (result ≡ Err Closed)
+            self.old self.new }
+    {
+        match self {
+            Held::Memory(memory) => memory.cells(value, count),
             Held::Thread(_) => Err(Code::Closed),
         }
     }
@@ -106,6 +118,20 @@ impl Held {
         match self {
             Held::Memory(_) => Err(Code::Closed),
             Held::Thread(thread) => thread.set(cell, value),
+        }
+    }
+
+    /// `Thread::on`.
+    #[inline]
+    pub fn on<R: Drop, F>(&mut self, f: F) -> Result<R, Code>
+    where
+        F: FnOnce(&mut Owned) -> Result<R, Stop>,
+        requires callable { F.IsAlwaysCallable f }
+        ensures { ByPart (λ old new. CallsOnce (λ t. t.tx) F.FnOnce f old new result) (result ≡ Err Closed) self.old self.new }
+    {
+        match self {
+            Held::Memory(_) => Err(Code::Closed),
+            Held::Thread(thread) => thread.on(f),
         }
     }
 
