@@ -32,11 +32,13 @@ ROOT = os.path.dirname(HERE)
 OUT = f"{HERE}/out"
 HEADER = f"{HERE}/include/dstm.h"
 EXPORTS = f"{ROOT}/crates/dstm_c/src/exports.rt"
-TESTS = ("first", "counter", "bank", "queue", "pool", "alternatives", "parts", "turn", "misuse", "refused")
+TESTS = ("first", "counter", "bank", "queue", "pool", "alternatives", "parts", "turn", "waits", "misuse", "refused")
 # By which engines a test runs where it takes long; where none is named it runs by all of them.
 BOTH = ("tl2", "polka")
 # The tests that have threads.
-THREADED = ("counter", "bank", "queue", "pool", "turn")
+THREADED = ("counter", "bank", "queue", "pool", "turn", "waits")
+# How a program may wait where it takes no futex, and what says so.
+BELLS = {"with a condition variable": "-DDSTM_BELL_CONDVAR", "with no bell": "-DDSTM_NO_BELL"}
 # What a test is built with besides.
 LINKED = {"refused": ("-Wl,--wrap=malloc,--wrap=realloc,--wrap=free",)}
 # A command that has not ended after so many seconds never will, however slow the machine.
@@ -292,6 +294,9 @@ def headers():
         words = [f"-std={standard}", "-x", language, *WARNINGS, f"-I{HERE}/include", "-fsyntax-only", "-"]
         check = lambda by=compiler, words=words: call([compiler_for(by), *words], input=uses, stdin=None)
         checks[f"dstm.h as {standard} by {compiler}"] = check
+    for name, how in BELLS.items():
+        words = ["-std=c99", how, "-x", "c", *WARNINGS, f"-I{HERE}/include", "-fsyntax-only", "-"]
+        checks[f"dstm.h {name}"] = lambda words=words: call([c_compiler(), *words], input=uses, stdin=None)
     return checks
 
 
@@ -308,6 +313,32 @@ def run_test(name, room):
 def million(room):
     """Four threads make a million transactions each, by one part each, as TL2 lets them."""
     call([build_test("counter", c_compiler(), room), "tl2", "1000000"])
+
+
+def hand_overs(room):
+    """Two threads hand a turn over 200,000 times, by TL2."""
+    call([build_test("waits", c_compiler(), room), "tl2", "100000"])
+
+
+def waits_by(how, room):
+    """Threads wait so: by a condition variable, or by naps."""
+    program = build_test("waits", c_compiler(), room, how)
+    for engine in BOTH:
+        call([program, engine])
+
+
+def one_bell(room):
+    """Two parts of a program, one of which is C++ where there is a compiler, and a shared library have one bell."""
+    words = ["-O2", *WARNINGS, f"-I{HERE}/include"]
+    second = [c_compiler(), "-std=c99"]
+    if shutil.which("g++") and works("g++"):
+        second = ["g++", "-std=c++17", "-x", "c++"]
+    source, library = f"{HERE}/tests/bells.c", f"{room}/libbells.so"
+    call([*second, *words, "-DPART=1", "-c", source, "-o", f"{room}/second.o"])
+    call([c_compiler(), *words, "-std=c99", "-DPART=2", "-fPIC", "-shared", source, f"{OUT}/libdstm.so", "-o", library])
+    of_program = ["-std=c99", "-DPART=0", source, f"{room}/second.o", library, f"{OUT}/libdstm.so", "-lpthread"]
+    call([c_compiler(), *words, *of_program, "-o", f"{room}/bells"])
+    call([f"{room}/bells", "tl2"], env={**os.environ, "LD_LIBRARY_PATH": f"{room}:{OUT}"})
 
 
 def by_valgrind(*more):
@@ -460,6 +491,9 @@ def main():
             for name in TESTS:
                 steps.step(f"{name}.c", lambda name=name: run_test(name, room))
             steps.step("counter.c with 4,000,000 transactions", lambda: million(room))
+            steps.step("waits.c with 200,000 hand-overs", lambda: hand_overs(room))
+            for name, how in BELLS.items():
+                steps.step(f"waits.c {name}", lambda how=how: waits_by(how, room))
             for name in TESTS[:-1]:
                 steps.step(f"{name}.c under valgrind", lambda name=name: valgrind(name, room))
             for compiler in ("gcc", "clang"):
@@ -468,6 +502,7 @@ def main():
                     steps.step(name, lambda compiler=compiler, kind=kind: sanitized(compiler, kind, room))
             if steps.step("libdstm.so", shared):
                 steps.step("counter.py", python)
+                steps.step("one bell of a program and its library", lambda: one_bell(room))
                 steps.step("counter.c as installed", lambda: by_pkg_config(room))
             if steps.step("the crate dstm for Rust", lambda: rust(room)):
                 without = ("--no-default-features", "--test", "all")

@@ -22,7 +22,7 @@
    dstm_atomically, at the end, is this loop for a function of the program.
 
    Every call answers a code. Each ends, whatever other threads do: none waits for another thread, but dstm_wait and
-   dstm_atomically, and these for so many looks only.
+   dstm_atomically, and their like, and these for so many looks or so long only.
 
    What the program owes, and nothing checks:
    - a handle is all zeros at first (DSTM_ZERO). The program does not change it, and uses no copy of it beside it;
@@ -37,12 +37,22 @@
 #define DSTM_H
 #include <sched.h>
 #include <stdint.h>
+#include <time.h>
+#if defined(DSTM_BELL_CONDVAR)
+#include <pthread.h>
+#elif !defined(DSTM_NO_BELL) && defined(__linux__) && defined(__LP64__) && defined(__GNUC__) && defined(__has_include)
+#if __has_include(<linux/futex.h>)
+#include <linux/futex.h>
+#include <sys/syscall.h>
+#define DSTM_BELL_FUTEX
+#endif
+#endif
 #ifdef __cplusplus
 extern "C" {
 #endif
 
 /* The version of this header: 10,000 for each version, 100 for each addition to it, 1 for each mending. */
-#define DSTM_VERSION 10100
+#define DSTM_VERSION 10200
 
 typedef enum dstm_code {
     DSTM_OK = 0,
@@ -156,6 +166,108 @@ static inline dstm_code dstm_thread_new(dstm_memory *memory, dstm_thread *thread
 /* Gives a part back; a transaction under way is given up. It wants no lock. CLOSED. */
 static inline dstm_code dstm_thread_free(dstm_thread *thread) { return DSTM_CALL(thread, dstmc_thread_free(thread)); }
 
+/* THE BELL, by which a commit wakes the threads that wait. There is one for all memories of a program. Its word counts
+   the rings by two, and is odd where somebody sleeps. Where nobody does, a commit loads the word and no more; else one
+   rings for all, and each sleeper looks, and sleeps on where nothing that it has read has changed. Who commits by
+   dstmc_commit, or in a shared library with a bell of its own, wakes nobody: a sleeper looks by itself, too, after 1 ms
+   at first, and later once it has waited as long again, or for 100 ms.
+   It is a futex, or with -DDSTM_BELL_CONDVAR a lock and a condition variable. With -DDSTM_NO_BELL, or where there is no
+   futex, there is none, and who waits looks after 50 us at first, and at last each 1 ms. */
+#if defined(__ELF__) && defined(__LP64__)
+/* two calls of POSIX, by names of their own, since -std=c99 hides them */
+int dstm_clock(int clock, struct timespec *now) __asm__("clock_gettime");
+int dstm_nap(const struct timespec *time, struct timespec *left) __asm__("nanosleep");
+#else
+#define dstm_clock clock_gettime
+#define dstm_nap nanosleep
+#endif
+#ifdef CLOCK_MONOTONIC
+#define DSTM_CLOCK CLOCK_MONOTONIC
+#else
+#define DSTM_CLOCK 1
+#endif
+static inline uint64_t dstm_now(int clock) {
+    struct timespec now = {0, 0};
+    dstm_clock(clock, &now);
+    return (uint64_t)now.tv_sec * 1000000000 + (uint64_t)now.tv_nsec;
+}
+static inline struct timespec dstm_time(uint64_t nanoseconds) {
+    struct timespec time = {0, 0};
+    time.tv_sec = (time_t)(nanoseconds / 1000000000);
+    time.tv_nsec = (long)(nanoseconds % 1000000000);
+    return time;
+}
+static inline void dstm_sleep(uint64_t nanoseconds) {
+    struct timespec time = dstm_time(nanoseconds);
+    dstm_nap(&time, &time);
+}
+#if defined(DSTM_BELL_FUTEX)
+typedef struct dstm_bell_by_futex { uint32_t word; } __attribute__((aligned(64))) dstm_bell_by_futex;
+extern dstm_bell_by_futex dstm_bell_futex __attribute__((weak, visibility("default")));
+dstm_bell_by_futex dstm_bell_futex = {0};
+#define DSTM_BELL dstm_bell_futex
+long dstm_system(long number, ...) __asm__("syscall");
+static inline void dstm_bell_wake(uint32_t word) {
+    if (__atomic_compare_exchange_n(&DSTM_BELL.word, &word, word + 1, 0, __ATOMIC_SEQ_CST, __ATOMIC_SEQ_CST))
+        dstm_system(SYS_futex, &DSTM_BELL.word, FUTEX_WAKE_PRIVATE, 0x7fffffff, 0, 0, 0);
+}
+static inline void dstm_bell_sleep(uint32_t word, uint64_t nanoseconds) {
+    struct timespec time = dstm_time(nanoseconds);
+    dstm_system(SYS_futex, &DSTM_BELL.word, FUTEX_WAIT_PRIVATE, word, &time, 0, 0);
+}
+#elif defined(DSTM_BELL_CONDVAR)
+typedef struct dstm_bell_by_condvar {
+    uint32_t word;
+    pthread_mutex_t lock;
+    pthread_cond_t rung;
+} __attribute__((aligned(64))) dstm_bell_by_condvar;
+extern dstm_bell_by_condvar dstm_bell_condvar __attribute__((weak, visibility("default")));
+dstm_bell_by_condvar dstm_bell_condvar = {0, PTHREAD_MUTEX_INITIALIZER, PTHREAD_COND_INITIALIZER};
+#define DSTM_BELL dstm_bell_condvar
+static inline void dstm_bell_wake(uint32_t word) {
+    pthread_mutex_lock(&DSTM_BELL.lock);
+    __atomic_compare_exchange_n(&DSTM_BELL.word, &word, word + 1, 0, __ATOMIC_SEQ_CST, __ATOMIC_SEQ_CST);
+    pthread_mutex_unlock(&DSTM_BELL.lock);
+    pthread_cond_broadcast(&DSTM_BELL.rung);
+}
+static inline void dstm_bell_sleep(uint32_t word, uint64_t nanoseconds) {
+    struct timespec until = dstm_time(dstm_now(0) + nanoseconds); /* its clock is CLOCK_REALTIME */
+    pthread_mutex_lock(&DSTM_BELL.lock);
+    if (__atomic_load_n(&DSTM_BELL.word, __ATOMIC_SEQ_CST) == word)
+        pthread_cond_timedwait(&DSTM_BELL.rung, &DSTM_BELL.lock, &until);
+    pthread_mutex_unlock(&DSTM_BELL.lock);
+}
+#endif
+#ifdef DSTM_BELL
+#define DSTM_LEAST_SLEEP 1000000
+#define DSTM_MOST_SLEEP 100000000
+/* Wakes who sleeps. dstm_commit does so by itself. */
+static inline void dstm_ring(void) {
+    uint32_t word = __atomic_load_n(&DSTM_BELL.word, __ATOMIC_SEQ_CST);
+    if (__builtin_expect(word & 1, 0)) dstm_bell_wake(word);
+}
+/* From here on each commit rings: who announces looks once more before it sleeps, so that no change is missed. */
+static inline uint32_t dstm_bell_announce(void) { return __atomic_or_fetch(&DSTM_BELL.word, 1, __ATOMIC_SEQ_CST); }
+#else
+#define DSTM_LEAST_SLEEP 50000
+#define DSTM_MOST_SLEEP 1000000
+static inline void dstm_ring(void) {}
+static inline uint32_t dstm_bell_announce(void) { return 0; }
+static inline void dstm_bell_sleep(uint32_t word, uint64_t nanoseconds) {
+    (void)word;
+    dstm_sleep(nanoseconds);
+}
+#endif
+static inline void dstm_pause(uint32_t times) {
+    for (; times; times--) {
+#if defined(__GNUC__) && (defined(__x86_64__) || defined(__i386__))
+        __builtin_ia32_pause();
+#elif defined(__GNUC__)
+        __asm__ __volatile__("" ::: "memory");
+#endif
+    }
+}
+
 /* TRANSACTIONS. What is read is of one moment, also in an attempt that comes to nothing. */
 
 /* Before an attempt at a transaction that was lost so often. One that was lost 8 times takes the memory's turn, until it
@@ -181,8 +293,13 @@ static inline dstm_code dstm_set(dstm_thread *me, dstm_cell cell, uint64_t low, 
 static inline dstm_code dstm_set_u64(dstm_thread *me, dstm_cell cell, uint64_t low) {
     return DSTM_CALL(me, dstmc_set(me, cell, low, 0));
 }
-/* OK: the transaction took effect as a whole. Any other code: nothing of it did. AGAIN, IDLE, CLOSED. */
-static inline dstm_code dstm_commit(dstm_thread *me) { return DSTM_CALL(me, dstmc_commit(me)); }
+/* OK: the transaction took effect as a whole, and the bell is rung. Any other code: nothing of it did. AGAIN, IDLE,
+   CLOSED. */
+static inline dstm_code dstm_commit(dstm_thread *me) {
+    dstm_code code = DSTM_CALL(me, dstmc_commit(me));
+    if (!code) dstm_ring();
+    return code;
+}
 /* Gives the transaction up: nothing of it takes effect. What it has read is of one moment all the same, and no number
    is drawn, so that nobody who waits is woken: so a transaction that only reads may end by it. IDLE, CLOSED. */
 static inline dstm_code dstm_abort(dstm_thread *me) { return DSTM_CALL(me, dstmc_abort(me)); }
@@ -207,6 +324,24 @@ static inline dstm_code dstm_wait(dstm_thread *me, uint32_t looks) {
         dstm_code code = dstm_abort(me);
         return code ? code : DSTM_RETRY;
     }
+}
+/* Looks for 2 us, and then sleeps between looks (THE BELL). AGAIN: begin again. RETRY: nothing has changed for so many
+   nanoseconds; the transaction is given up. With 0 it looks once. MEMORY, SPENT, IDLE, CLOSED. */
+static inline dstm_code dstm_wait_for(dstm_thread *me, uint64_t nanoseconds) {
+    uint64_t begun = dstm_now(DSTM_CLOCK), waited, time;
+    dstm_code code;
+    for (waited = 0;; waited = dstm_now(DSTM_CLOCK) - begun) {
+        int sleeps = waited >= 2000;
+        uint32_t word = sleeps ? dstm_bell_announce() : 0;
+        code = dstm_look(me);
+        if (code) return code;
+        if (waited >= nanoseconds) break;
+        time = waited < DSTM_LEAST_SLEEP ? DSTM_LEAST_SLEEP : waited < DSTM_MOST_SLEEP ? waited : DSTM_MOST_SLEEP;
+        if (!sleeps) dstm_pause(1);
+        else dstm_bell_sleep(word, time < nanoseconds - waited ? time : nanoseconds - waited);
+    }
+    code = dstm_abort(me);
+    return code ? code : DSTM_RETRY;
 }
 
 /* ALTERNATIVES. */
@@ -233,17 +368,41 @@ static inline dstm_code dstm_or_else(dstm_thread *me, dstm_body first, dstm_body
     return code ? code : second(me, with);
 }
 
-/* dstm_begin, where no other thread has the turn, or this one has waited for it long enough. */
+/* Gives way, the so-manieth time in a row: pauses twice, and then naps for 50 us, 100, .. 800 us, 1 ms. A yield would
+   give a whole slice of time away where other programs keep the processor busy. */
+static inline void dstm_give_way(uint32_t times) {
+    if (times <= 2) dstm_pause(32u << times);
+    else dstm_sleep(times < 8 ? 6250u << times : 1000000);
+}
+/* How the loop below waits, the so-manieth time, and with what patience: for so many looks; for so long each time; or
+   in all. Who was often woken in vain naps first, so that steady commits to other cells do not wake it each time. */
+typedef dstm_code (*dstm_waiting)(dstm_thread *me, uint64_t *patience, uint32_t times);
+static inline dstm_code dstm_wait_looks(dstm_thread *me, uint64_t *looks, uint32_t times) {
+    (void)times;
+    return dstm_wait(me, (uint32_t)*looks);
+}
+static inline dstm_code dstm_wait_each(dstm_thread *me, uint64_t *nanoseconds, uint32_t times) {
+    if (times > 8) dstm_give_way(2 + times / 8);
+    return dstm_wait_for(me, *nanoseconds);
+}
+static inline dstm_code dstm_wait_in_all(dstm_thread *me, uint64_t *left, uint32_t times) {
+    uint64_t begun = dstm_now(DSTM_CLOCK), waited;
+    dstm_code code = dstm_wait_each(me, left, times);
+    waited = dstm_now(DSTM_CLOCK) - begun;
+    *left -= waited < *left ? waited : *left;
+    return code;
+}
+/* dstm_begin, where no other thread has the turn, or this one has waited for it long enough: 3 ms or so at first, and
+   half a second at most. */
 static inline dstm_code dstm_begin_in_turn(dstm_thread *me, uint32_t lost) {
-    while (dstm_turn(me, lost) == DSTM_AGAIN) sched_yield();
+    uint32_t asked = 0;
+    while (dstm_turn(me, lost) == DSTM_AGAIN)
+        if (++asked % 1024 == 0) dstm_give_way(asked / 1024);
     return dstm_begin(me);
 }
-/* Makes a transaction of a body: calls it until it has taken effect. Where the body answers DSTM_RETRY, it is called
-   again once something that it has read may have changed; where nothing does for so many looks, that is the answer.
-   Any other code of the body gives the transaction up, and is the answer. After each attempt that was lost the
-   processor is left to others, twice as often as before, at most 64 times; after 8 of them it goes first (dstm_turn). */
-static inline dstm_code dstm_atomically_for(dstm_thread *me, uint32_t looks, dstm_body body, void *with) {
-    uint32_t lost = 0, yields;
+static inline dstm_code dstm_atomically_by(dstm_thread *me, dstm_waiting wait, uint64_t patience, dstm_body body,
+                                           void *with) {
+    uint32_t lost = 0, waits = 0;
     dstm_code code = dstm_begin_in_turn(me, lost);
     while (!code) {
         int waited;
@@ -253,14 +412,13 @@ static inline dstm_code dstm_atomically_for(dstm_thread *me, uint32_t looks, dst
             if (!code) return code;
         }
         waited = code == DSTM_RETRY;
-        if (waited) code = dstm_wait(me, looks);
+        if (waited) code = wait(me, &patience, ++waits);
         if (code != DSTM_AGAIN) {
             dstm_abort(me);
             return code;
         }
         if (waited) lost = 0; /* something has changed, and nobody is in its way */
-        else if (lost < 8)
-            for (lost++, yields = 1u << (lost < 6 ? lost : 6); yields; yields--) sched_yield();
+        else if (lost < 8) dstm_give_way(++lost);
         code = dstm_begin_in_turn(me, lost);
         if (code == DSTM_OPEN) { /* it is not lost: the body said so by itself */
             dstm_abort(me);
@@ -269,9 +427,20 @@ static inline dstm_code dstm_atomically_for(dstm_thread *me, uint32_t looks, dst
     }
     return code;
 }
-/* The same with 1,048,576 looks. */
+/* Makes a transaction of a body: calls it until it has taken effect. Where the body answers DSTM_RETRY, it is called
+   again once something that it has read may have changed; where nothing does for ten seconds, that is the answer. Any
+   other code of the body gives the transaction up, and is the answer. After each attempt that was lost the thread gives
+   way, for longer each time, 1 ms at most; after 8 of them it goes first (dstm_turn). */
 static inline dstm_code dstm_atomically(dstm_thread *me, dstm_body body, void *with) {
-    return dstm_atomically_for(me, 1048576, body, with);
+    return dstm_atomically_by(me, dstm_wait_each, 10 * (uint64_t)1000000000, body, with);
+}
+/* The same, and it waits for so many nanoseconds in all. With 0 it does not wait. */
+static inline dstm_code dstm_atomically_within(dstm_thread *me, uint64_t nanoseconds, dstm_body body, void *with) {
+    return dstm_atomically_by(me, dstm_wait_in_all, nanoseconds, body, with);
+}
+/* The same by dstm_wait: it waits for so many looks each time, and does not sleep. */
+static inline dstm_code dstm_atomically_for(dstm_thread *me, uint32_t looks, dstm_body body, void *with) {
+    return dstm_atomically_by(me, dstm_wait_looks, looks, body, with);
 }
 
 /* STRUCTURES, made of cells. A call on one is a part of the transaction under way, and copies of its name name

@@ -84,20 +84,24 @@
 //! dstm::Memory::new(1).unwrap().cell(String::new()).unwrap();
 //! ```
 //!
-//! Without the feature `std` the crate wants `core` alone. A thread that waits then spins, where it yields else.
+//! A thread that waits sleeps, until a commit of its memory wakes it. Without the feature `std` the crate wants `core`
+//! alone, and a thread that waits spins.
 #![cfg_attr(not(feature = "std"), no_std)]
 #![deny(unsafe_op_in_unsafe_fn, missing_docs)]
 
+mod bell;
 mod lock;
 mod structures;
 
+use bell::{give_way, Bell};
 use core::cell::Cell as Plain;
 use core::fmt::{Debug, Display, Formatter};
 use core::marker::PhantomData;
 use core::mem::forget;
 use core::ptr::null_mut;
 use core::sync::atomic::{AtomicU64, Ordering};
-use lock::{give_way, Lock};
+use core::time::Duration;
+use lock::Lock;
 pub use structures::{Pool, Queue};
 
 // What `dstm.h` calls dstm_memory and dstm_thread.
@@ -134,11 +138,12 @@ const AGAIN: u32 = 1;
 const SPENT: u32 = 2;
 const OPEN: u32 = 5;
 const FULL: u32 = 9;
-const LOOKS: u32 = 1_048_576;
+// A transaction waits so long until something changes.
+const PATIENCE: Duration = Duration::from_secs(10);
 // After so many lost attempts a transaction goes first, and no longer gives way.
 const MOST_LOST: u32 = 8;
-// It gives way twice as often each time, at most 64 times.
-const MOST_DOUBLINGS: u32 = 6;
+// So often a thread asks whether another one still goes first, before it gives way.
+const ASKS: u32 = 1024;
 
 /// Why a call failed.
 #[derive(Clone, Copy, Debug, PartialEq, Eq)]
@@ -153,7 +158,7 @@ pub enum Error {
     Memory,
     /// A number is out of its range: there have to be from 1 to 63 threads, and at least 1 place in a queue or a pool.
     Range,
-    /// The closure retried, and nothing that it has read has changed for long.
+    /// The closure retried, and nothing that it has read has changed for long, or it has waited for as long as it may.
     Idle,
 }
 
@@ -350,6 +355,7 @@ pub struct Memory {
     id: u64,
     // One call on it at a time.
     handle: Lock,
+    bell: Bell,
 }
 
 impl Memory {
@@ -367,6 +373,7 @@ impl Memory {
         Ok(Memory {
             id: MEMORIES.fetch_add(1, Ordering::Relaxed),
             handle: Lock::new(handle),
+            bell: Bell::new(),
         })
     }
 
@@ -421,13 +428,40 @@ pub struct Thread<'m> {
 
 impl<'m> Thread<'m> {
     /// Makes a transaction: calls the closure, and again, until what it did has taken effect as a whole. On a panic
-    /// of the closure it is given up. After each attempt that was lost the thread gives way, twice as often as before,
-    /// at most 64 times; after 8 of them the transaction goes first, so that a long one gets through beside short ones.
+    /// of the closure it is given up. After each attempt that was lost the thread gives way, for longer each time, 1 ms
+    /// at most; after 8 of them the transaction goes first, so that a long one gets through beside short ones. Where the
+    /// closure retries the thread sleeps until something that it has read may have changed; `Idle`, where nothing has for
+    /// ten seconds. Without the feature `std` it spins, for 1,048,576 looks.
     pub fn atomically<R>(
         &mut self,
+        f: impl FnMut(&mut Tx<'_, 'm>) -> Result<R, Stop>,
+    ) -> Result<R, Error> {
+        self.make(|tx, times| tx.wait(PATIENCE, times), f)
+    }
+
+    /// The same, and it waits for so long in all: then the answer is `Idle`. With `Duration::ZERO` it does not wait.
+    #[cfg(feature = "std")]
+    pub fn atomically_within<R>(
+        &mut self,
+        patience: Duration,
+        f: impl FnMut(&mut Tx<'_, 'm>) -> Result<R, Stop>,
+    ) -> Result<R, Error> {
+        let mut left = patience;
+        let wait = |tx: &mut Tx<'_, 'm>, times| {
+            let begun = std::time::Instant::now();
+            tx.wait(left, times)?;
+            left = left.saturating_sub(begun.elapsed());
+            Ok(())
+        };
+        self.make(wait, f)
+    }
+
+    fn make<R>(
+        &mut self,
+        mut wait: impl FnMut(&mut Tx<'_, 'm>, u32) -> Result<(), Error>,
         mut f: impl FnMut(&mut Tx<'_, 'm>) -> Result<R, Stop>,
     ) -> Result<R, Error> {
-        let mut lost = 0;
+        let (mut lost, mut waits) = (0, 0u32);
         loop {
             self.wait_for_turn(lost);
             self.begin()?;
@@ -435,6 +469,7 @@ impl<'m> Thread<'m> {
             match f(&mut tx) {
                 Ok(answer) => match unsafe { dstmc_commit(&mut tx.thread.handle) } {
                     DONE => {
+                        tx.thread.memory.bell.ring();
                         forget(tx);
                         return Ok(answer);
                     }
@@ -443,7 +478,8 @@ impl<'m> Thread<'m> {
                 },
                 Err(Stop::Again) => forget(tx),
                 Err(Stop::Retry) => {
-                    tx.wait()?;
+                    waits = waits.saturating_add(1);
+                    wait(&mut tx, waits)?;
                     forget(tx);
                     // Something has changed, and nobody is in its way.
                     lost = 0;
@@ -453,15 +489,19 @@ impl<'m> Thread<'m> {
             }
             if lost < MOST_LOST {
                 lost += 1;
-                (0..1 << lost.min(MOST_DOUBLINGS)).for_each(|_| give_way());
+                give_way(lost);
             }
         }
     }
 
     // Lets a transaction that was lost often, and has the turn, go first; one that was lost so often takes it.
     fn wait_for_turn(&mut self, lost: u32) {
+        let mut asked = 0;
         while unsafe { dstmc_turn(&mut self.handle, lost) } == AGAIN {
-            give_way();
+            asked += 1;
+            if asked % ASKS == 0 {
+                give_way(asked / ASKS);
+            }
         }
     }
 
@@ -517,18 +557,19 @@ impl<'m> Tx<'_, 'm> {
         }
     }
 
-    // Waits until something that it has read may have changed, for so many looks at most. One that is spent begins by
-    // another part.
-    fn wait(&mut self) -> Result<(), Error> {
-        for _ in 0..LOOKS {
-            give_way();
-            match unsafe { dstmc_look(&mut self.thread.handle) } {
-                DONE => {}
-                AGAIN | SPENT => return Ok(()),
-                code => return Err(error(code)),
-            }
+    // Waits the so-manieth time until something that it has read may have changed, for so long at most. One that was
+    // often woken in vain gives way first, so that steady commits to other cells do not wake it each time. One that is
+    // spent begins by another part.
+    fn wait(&mut self, patience: Duration, times: u32) -> Result<(), Error> {
+        if times > MOST_LOST {
+            give_way(2 + times / MOST_LOST);
         }
-        Err(Error::Idle)
+        let Thread { memory, handle, .. } = &mut *self.thread;
+        memory.bell.wait(patience, || match unsafe { dstmc_look(handle) } {
+            DONE => Ok(false),
+            AGAIN | SPENT => Ok(true),
+            code => Err(error(code)),
+        })
     }
 
     /// What a cell holds.

@@ -6,7 +6,6 @@ mod with_std {
     use super::Handle;
     use std::ops::DerefMut;
     use std::sync::{Mutex, PoisonError};
-    pub(crate) use std::thread::yield_now as give_way;
 
     pub(crate) struct Lock(Mutex<Handle>);
 
@@ -25,7 +24,7 @@ mod with_std {
 mod without_std {
     use super::Handle;
     use core::cell::UnsafeCell;
-    pub(crate) use core::hint::spin_loop as give_way;
+    use core::hint::spin_loop;
     use core::ops::{Deref, DerefMut};
     use core::sync::atomic::{AtomicBool, Ordering};
 
@@ -49,7 +48,7 @@ mod without_std {
 
         pub(crate) fn lock(&self) -> impl DerefMut<Target = Handle> + '_ {
             while self.taken.swap(true, Ordering::Acquire) {
-                give_way();
+                spin_loop();
             }
             Guard(self)
         }
@@ -79,6 +78,6 @@ mod without_std {
 }
 
 #[cfg(feature = "std")]
-pub(crate) use with_std::{give_way, Lock};
+pub(crate) use with_std::Lock;
 #[cfg(not(feature = "std"))]
-pub(crate) use without_std::{give_way, Lock};
+pub(crate) use without_std::Lock;

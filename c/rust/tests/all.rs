@@ -226,6 +226,75 @@ fn each_number_comes_out_of_a_bounded_queue_once() {
     }
 }
 
+// Threads that hand a turn over, so often each.
+fn hand_over(engine: Engine, threads: u64, each: u64) {
+    let mut memory = Memory::with_engine(threads as u32, engine).unwrap();
+    let turn = memory.cell(0u64).unwrap();
+    scope(|s| {
+        let hands_over = |n| {
+            let mut me = memory.thread().unwrap();
+            s.spawn(move || {
+                for at in (n..threads * each).step_by(threads as usize) {
+                    wait_for(&mut me, |tx| {
+                        let here = tx.get(turn)? == at;
+                        tx.ensure(here)?;
+                        tx.set(turn, at + 1)
+                    });
+                }
+            })
+        };
+        joined((0..threads).map(hands_over).collect())
+    });
+    assert_eq!(memory.get(turn), Ok(threads * each));
+}
+
+#[test]
+fn no_turn_is_lost() {
+    // One that spins hands over once in a slice of time, on a machine that does much else.
+    let times = if cfg!(feature = "std") { 1_000 } else { 20 };
+    for engine in ENGINES {
+        hand_over(engine, 2, times);
+        hand_over(engine, 8, times / 5);
+    }
+}
+
+#[test]
+#[ignore = "it takes long in a debug build"]
+fn no_turn_of_very_many_is_lost() {
+    hand_over(Engine::Tl2, 2, 100_000);
+}
+
+#[cfg(feature = "std")]
+#[test]
+fn who_waits_is_woken_and_waits_for_so_long_at_most() {
+    use std::thread::sleep;
+    use std::time::{Duration, Instant};
+    for engine in ENGINES {
+        let mut memory = Memory::with_engine(2, engine).unwrap();
+        let slot = memory.cell(None::<u64>).unwrap();
+        let (mut a, mut b) = (memory.thread().unwrap(), memory.thread().unwrap());
+        let begun = Instant::now();
+        let patience = Duration::from_millis(30);
+        assert_eq!(a.atomically_within(patience, |tx| take(tx, slot)), Err(Error::Idle));
+        assert!(begun.elapsed() >= patience);
+        assert_eq!(a.atomically_within(Duration::ZERO, |tx| take(tx, slot)), Err(Error::Idle));
+        // By itself it would look much later.
+        let soon = (0..20).any(|n| {
+            scope(|s| {
+                let woken = s.spawn(|| {
+                    assert_eq!(wait_for(&mut a, |tx| take(tx, slot)), n);
+                    Instant::now()
+                });
+                sleep(Duration::from_millis(150));
+                let put_in = Instant::now();
+                b.atomically(|tx| put(tx, slot, n)).unwrap();
+                woken.join().unwrap() - put_in < Duration::from_millis(20)
+            })
+        });
+        assert!(soon);
+    }
+}
+
 #[test]
 fn the_first_one_into_a_queue_is_the_first_one_out() {
     let mut memory = Memory::new(1).unwrap();
