@@ -34,11 +34,11 @@ static void *waits(void *part) {
 }
 
 static void test(dstm_engine engine) {
-    uint64_t least = (uint64_t)-1, begun;
-    int left;
+    uint64_t begun;
+    int i, hits = 0;
     IS(1, bell_of_second() == (const void *)&DSTM_BELL);
     IS(1, bell_of_library() == (const void *)&DSTM_BELL);
-    for (left = 20; left && least >= 20000000; left--) { /* by itself it would look much later */
+    for (i = 0; i < 9; i++) {
         dstm_memory memory = DSTM_ZERO;
         pthread_t running;
         IS(DSTM_OK, dstm_memory_new(&memory, 2, engine));
@@ -50,12 +50,12 @@ static void test(dstm_engine engine) {
         begun = dstm_now(DSTM_CLOCK);
         IS(DSTM_OK, commit_of_library(&parts[1], cell));
         IS(0, pthread_join(running, NULL));
-        if (came - begun < least) least = came - begun;
+        hits += came - begun < 40000000; /* by itself it would look some 80 ms later */
         IS(DSTM_OK, dstm_thread_free(&parts[0]));
         IS(DSTM_OK, dstm_thread_free(&parts[1]));
         IS(DSTM_OK, dstm_memory_free(&memory));
     }
-    IS(1, least < 20000000);
+    IS(1, hits > 4);
     printf("%s: one bell\n", engines[engine]);
 }
 

@@ -150,11 +150,11 @@ static dstm_code ring_not(dstm_thread *me) {
     return code;
 }
 
-/* One that has waited for so many milliseconds wakes soon behind a commit: in less than so many, once in a few times. */
+/* One that has waited for so many milliseconds wakes soon behind a commit, in less than so many, most times. */
 static void wakes(dstm_engine engine, uint64_t milliseconds, int rings, uint64_t soon) {
-    uint64_t least = (uint64_t)-1, begun;
-    int left;
-    for (left = 20; left && least >= soon * MILLISECOND; left--) {
+    uint64_t begun;
+    int i, hits = 0;
+    for (i = 0; i < 9; i++) {
         dstm_memory memory = open_memory(2, engine);
         pthread_t running;
         at = 7;
@@ -163,10 +163,10 @@ static void wakes(dstm_engine engine, uint64_t milliseconds, int rings, uint64_t
         begun = dstm_now(DSTM_CLOCK);
         IS(DSTM_OK, rings ? dstm_atomically(&parts[1], set_it, &at) : ring_not(&parts[1]));
         IS(0, pthread_join(running, NULL));
-        if (came - begun < least) least = came - begun;
+        hits += came - begun < soon * MILLISECOND;
         close_memory(&memory, 2, 8);
     }
-    IS(1, least < soon * MILLISECOND);
+    IS(1, hits > 4);
 }
 
 /* The processor's milliseconds that the program has taken. */
@@ -234,7 +234,7 @@ static void test(dstm_engine engine) {
     beside_busy_ones(engine);
     patience(engine);
     sleeps(engine);
-    wakes(engine, 150, 1, 20);
+    wakes(engine, 150, 1, 40); /* by itself it would look some 80 ms later */
     wakes(engine, 20, 0, 200);
     printf("%s: %llu hand-overs\n", engines[engine], (unsigned long long)(handed * 4));
 }

@@ -6,7 +6,7 @@ use core::time::Duration;
 mod with_std {
     use super::{Duration, Error};
     use core::hint::spin_loop;
-    use core::sync::atomic::{AtomicBool, Ordering};
+    use core::sync::atomic::{AtomicU64, Ordering};
     use std::sync::{Condvar, Mutex, MutexGuard, PoisonError};
     use std::thread::sleep;
     use std::time::Instant;
@@ -21,54 +21,52 @@ mod with_std {
     const DOUBLINGS: u32 = 4;
 
     pub(crate) struct Bell {
-        // Somebody sleeps, or is about to.
-        announced: AtomicBool,
-        // How often it was rung.
-        rings: Mutex<u64>,
+        // Counts the rings by two, and is odd where somebody sleeps, or is about to.
+        word: AtomicU64,
+        lock: Mutex<()>,
         rung: Condvar,
     }
 
     impl Bell {
         pub(crate) fn new() -> Bell {
             Bell {
-                announced: AtomicBool::new(false),
-                rings: Mutex::new(0),
+                word: AtomicU64::new(0),
+                lock: Mutex::new(()),
                 rung: Condvar::new(),
             }
         }
 
-        fn rings(&self) -> MutexGuard<'_, u64> {
-            self.rings.lock().unwrap_or_else(PoisonError::into_inner)
+        fn lock(&self) -> MutexGuard<'_, ()> {
+            self.lock.lock().unwrap_or_else(PoisonError::into_inner)
         }
 
         // Wakes who sleeps.
         pub(crate) fn ring(&self) {
-            if self.announced.load(Ordering::SeqCst) {
-                self.wake();
+            let word = self.word.load(Ordering::SeqCst);
+            if word & 1 == 1 {
+                self.wake(word);
             }
         }
 
         #[cold]
-        fn wake(&self) {
-            let mut rings = self.rings();
-            self.announced.store(false, Ordering::SeqCst);
-            *rings += 1;
-            drop(rings);
+        fn wake(&self, word: u64) {
+            let lock = self.lock();
+            // Where it is another one by now, somebody else has rung.
+            let _ = self.word.compare_exchange(word, word + 1, Ordering::SeqCst, Ordering::SeqCst);
+            drop(lock);
             self.rung.notify_all();
         }
 
         // From here on each commit rings.
         fn announce(&self) -> u64 {
-            let rings = self.rings();
-            self.announced.store(true, Ordering::SeqCst);
-            *rings
+            self.word.fetch_or(1, Ordering::SeqCst) | 1
         }
 
-        // Sleeps until it is rung more often than so, or for so long.
-        fn sleep(&self, heard: u64, time: Duration) {
-            let rings = self.rings();
-            if *rings == heard {
-                drop(self.rung.wait_timeout(rings, time));
+        // Sleeps until it is rung, or for so long.
+        fn sleep(&self, word: u64, time: Duration) {
+            let lock = self.lock();
+            if self.word.load(Ordering::SeqCst) == word {
+                drop(self.rung.wait_timeout(lock, time));
             }
         }
 
@@ -82,15 +80,15 @@ mod with_std {
             let begun = Instant::now();
             let mut waited = Duration::ZERO;
             loop {
-                let heard = (waited >= AWAKE).then(|| self.announce());
+                let announced = (waited >= AWAKE).then(|| self.announce());
                 if look()? {
                     return Ok(());
                 }
                 if waited >= patience {
                     return Err(Error::Idle);
                 }
-                match heard {
-                    Some(heard) => self.sleep(heard, waited.clamp(LEAST, MOST).min(patience - waited)),
+                match announced {
+                    Some(word) => self.sleep(word, waited.clamp(LEAST, MOST).min(patience - waited)),
                     None => spin_loop(),
                 }
                 waited = begun.elapsed();
