@@ -32,7 +32,8 @@ ROOT = os.path.dirname(HERE)
 OUT = f"{HERE}/out"
 HEADER = f"{HERE}/include/dstm.h"
 EXPORTS = f"{ROOT}/crates/dstm_c/src/exports.rt"
-TESTS = ("first", "counter", "bank", "queue", "pool", "alternatives", "parts", "turn", "waits", "misuse", "refused")
+TESTS = ("first", "counter", "bank", "queue", "pool", "alternatives", "nested", "parts", "turn", "waits")
+TESTS += ("misuse", "refused")
 # By which engines a test runs where it takes long; where none is named it runs by all of them.
 BOTH = ("tl2", "polka")
 # The tests that have threads.

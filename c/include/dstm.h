@@ -68,7 +68,8 @@ typedef enum dstm_code {
     DSTM_MEMORY = 10, /* there is not enough memory */
     DSTM_RANGE = 11,  /* a number is out of its range */
     DSTM_NULL = 12,   /* a pointer is null */
-    DSTM_RETRY = 13   /* what a body answers where it cannot go on with what it has read */
+    DSTM_RETRY = 13,  /* what a body answers where it cannot go on with what it has read */
+    DSTM_ELSEWHERE = 14 /* a body said AGAIN, and its own transaction is not lost: it was told so of another one */
 } dstm_code;
 
 /* By which engine a memory works: by TL2; or by DSTM, under one of four contention managers. By DSTM nobody locks, so
@@ -127,6 +128,7 @@ static inline const char *dstm_code_text(dstm_code code) {
     case DSTM_RANGE: return "a number is out of its range";
     case DSTM_NULL: return "a pointer is null";
     case DSTM_RETRY: return "nothing that was read has changed";
+    case DSTM_ELSEWHERE: return "another transaction is lost";
     }
     return "no code";
 }
@@ -400,15 +402,17 @@ static inline dstm_code dstm_begin_in_turn(dstm_thread *me, uint32_t lost) {
         if (++asked % 1024 == 0) dstm_give_way(asked / 1024);
     return dstm_begin(me);
 }
-static inline dstm_code dstm_atomically_by(dstm_thread *me, dstm_waiting wait, uint64_t patience, dstm_body body,
-                                           void *with) {
+/* The loop of all that follows: calls a body on attempts, one after the other, until one has ended well. */
+typedef dstm_code (*dstm_ending)(dstm_thread *me);
+static inline dstm_code dstm_make(dstm_thread *me, dstm_ending end, dstm_waiting wait, uint64_t patience,
+                                  dstm_body body, void *with) {
     uint32_t lost = 0, waits = 0;
     dstm_code code = dstm_begin_in_turn(me, lost);
     while (!code) {
         int waited;
         code = body(me, with);
         if (!code) {
-            code = dstm_commit(me);
+            code = end(me);
             if (!code) return code;
         }
         waited = code == DSTM_RETRY;
@@ -420,27 +424,33 @@ static inline dstm_code dstm_atomically_by(dstm_thread *me, dstm_waiting wait, u
         if (waited) lost = 0; /* something has changed, and nobody is in its way */
         else if (lost < 8) dstm_give_way(++lost);
         code = dstm_begin_in_turn(me, lost);
-        if (code == DSTM_OPEN) { /* it is not lost: the body said so by itself */
+        if (code == DSTM_OPEN) { /* it is not lost */
             dstm_abort(me);
-            code = dstm_begin(me);
+            return DSTM_ELSEWHERE;
         }
     }
     return code;
 }
 /* Makes a transaction of a body: calls it until it has taken effect. Where the body answers DSTM_RETRY, it is called
    again once something that it has read may have changed; where nothing does for ten seconds, that is the answer. Any
-   other code of the body gives the transaction up, and is the answer. After each attempt that was lost the thread gives
-   way, for longer each time, 1 ms at most; after 8 of them it goes first (dstm_turn). */
+   other code of the body gives the transaction up, and is the answer; but for AGAIN where this transaction is not lost:
+   ELSEWHERE. After each attempt that was lost the thread gives way, for longer each time, 1 ms at most; after 8 of them
+   it goes first (dstm_turn). */
 static inline dstm_code dstm_atomically(dstm_thread *me, dstm_body body, void *with) {
-    return dstm_atomically_by(me, dstm_wait_each, 10 * (uint64_t)1000000000, body, with);
+    return dstm_make(me, dstm_commit, dstm_wait_each, 10 * (uint64_t)1000000000, body, with);
 }
 /* The same, and it waits for so many nanoseconds in all. With 0 it does not wait. */
 static inline dstm_code dstm_atomically_within(dstm_thread *me, uint64_t nanoseconds, dstm_body body, void *with) {
-    return dstm_atomically_by(me, dstm_wait_in_all, nanoseconds, body, with);
+    return dstm_make(me, dstm_commit, dstm_wait_in_all, nanoseconds, body, with);
 }
 /* The same by dstm_wait: it waits for so many looks each time, and does not sleep. */
 static inline dstm_code dstm_atomically_for(dstm_thread *me, uint32_t looks, dstm_body body, void *with) {
-    return dstm_atomically_by(me, dstm_wait_looks, looks, body, with);
+    return dstm_make(me, dstm_commit, dstm_wait_looks, looks, body, with);
+}
+/* Looks at the memory by a body, as dstm_atomically calls it: what the last call was told is of one moment. Nothing that
+   it has set takes effect, no number is drawn, and nobody is woken, so that views of several threads do not meet. */
+static inline dstm_code dstm_view(dstm_thread *me, dstm_body body, void *with) {
+    return dstm_make(me, dstm_abort, dstm_wait_each, 10 * (uint64_t)1000000000, body, with);
 }
 
 /* STRUCTURES, made of cells. A call on one is a part of the transaction under way, and copies of its name name

@@ -1,4 +1,4 @@
-/* Marks, what is undone, and one body or else another. */
+/* Marks, what is undone, one body or else another, and looks. */
 #include "common.h"
 
 static dstm_cell a, b;
@@ -23,17 +23,25 @@ static dstm_code from_b(dstm_thread *me, void *with) {
 
 static dstm_code from_either(dstm_thread *me, void *with) { return dstm_or_else(me, from_a, from_b, with); }
 
-static dstm_code itself_again(dstm_thread *me, void *with) {
-    int *left = with;
+static dstm_code is_not_lost(dstm_thread *me, void *with) {
     dstm_code code = dstm_set_u64(me, a, 100);
-    return code ? code : (*left)-- ? DSTM_AGAIN : DSTM_OK;
+    (void)with;
+    return code ? code : DSTM_AGAIN;
+}
+
+static dstm_code sum(dstm_thread *me, void *with) {
+    uint64_t n = 0, m = 0, *told = with;
+    dstm_code code = dstm_get_u64(me, a, &n);
+    if (!code) code = dstm_get_u64(me, b, &m);
+    if (!code) code = dstm_set_u64(me, a, 200); /* takes no effect */
+    if (!code) *told = n + m;
+    return code;
 }
 
 static void test(dstm_engine engine) {
     dstm_memory memory = DSTM_ZERO;
     dstm_thread me = DSTM_ZERO;
     uint64_t low = 0, high = 0, first = 0, second = 0, n = 0;
-    int left = 3;
     IS(DSTM_OK, dstm_memory_new(&memory, 1, engine));
     IS(DSTM_OK, dstm_cell_new_u64(&memory, 1, &a));
     IS(DSTM_OK, dstm_cell_new_u64(&memory, 2, &b));
@@ -69,8 +77,12 @@ static void test(dstm_engine engine) {
     IS(DSTM_OK, dstm_atomically(&me, from_either, NULL));
     IS(DSTM_OK, dstm_atomically(&me, from_either, NULL));
     IS(DSTM_RETRY, dstm_atomically_for(&me, 100, from_either, NULL));
-    IS(DSTM_OK, dstm_atomically(&me, itself_again, &left));
-    IS(-1, left);
+    IS(DSTM_ELSEWHERE, dstm_atomically(&me, is_not_lost, NULL));
+    IS(DSTM_OK, dstm_begin(&me));
+    IS(DSTM_OK, dstm_set_u64(&me, a, 100));
+    IS(DSTM_OK, dstm_commit(&me));
+    IS(DSTM_OK, dstm_view(&me, sum, &n));
+    IS(100, n);
     IS(DSTM_OK, dstm_thread_free(&me));
     IS(DSTM_OK, dstm_peek_u64(&memory, a, &n));
     IS(100, n);

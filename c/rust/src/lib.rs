@@ -160,6 +160,8 @@ pub enum Error {
     Range,
     /// The closure retried, and nothing that it has read has changed for long, or it has waited for as long as it may.
     Idle,
+    /// The closure was stopped by a call on another transaction, which is lost; its own is not.
+    Elsewhere,
 }
 
 impl Display for Error {
@@ -171,6 +173,7 @@ impl Display for Error {
             Error::Memory => "out of memory",
             Error::Range => "a number is out of its range",
             Error::Idle => "a transaction waited in vain",
+            Error::Elsewhere => "another transaction is lost",
         })
     }
 }
@@ -436,7 +439,16 @@ impl<'m> Thread<'m> {
         &mut self,
         f: impl FnMut(&mut Tx<'_, 'm>) -> Result<R, Stop>,
     ) -> Result<R, Error> {
-        self.make(|tx, times| tx.wait(PATIENCE, times), f)
+        self.make(true, |tx, times| tx.wait(PATIENCE, times), f)
+    }
+
+    /// Looks at the memory: calls the closure as `atomically` does. What the last call was told is of one moment. Nothing
+    /// that it has set takes effect, no number is drawn, and nobody is woken, so that views of several threads do not meet.
+    pub fn view<R>(
+        &mut self,
+        f: impl FnMut(&mut Tx<'_, 'm>) -> Result<R, Stop>,
+    ) -> Result<R, Error> {
+        self.make(false, |tx, times| tx.wait(PATIENCE, times), f)
     }
 
     /// The same, and it waits for so long in all: then the answer is `Idle`. With `Duration::ZERO` it does not wait.
@@ -453,11 +465,13 @@ impl<'m> Thread<'m> {
             left = left.saturating_sub(begun.elapsed());
             Ok(())
         };
-        self.make(wait, f)
+        self.make(true, wait, f)
     }
 
+    // Calls the closure on attempts, one after the other, until one has ended well.
     fn make<R>(
         &mut self,
+        commits: bool,
         mut wait: impl FnMut(&mut Tx<'_, 'm>, u32) -> Result<(), Error>,
         mut f: impl FnMut(&mut Tx<'_, 'm>) -> Result<R, Stop>,
     ) -> Result<R, Error> {
@@ -467,15 +481,11 @@ impl<'m> Thread<'m> {
             self.begin()?;
             let mut tx = Tx { thread: self };
             match f(&mut tx) {
-                Ok(answer) => match unsafe { dstmc_commit(&mut tx.thread.handle) } {
-                    DONE => {
-                        tx.thread.memory.bell.ring();
-                        forget(tx);
+                Ok(answer) => {
+                    if !commits || tx.commit()? {
                         return Ok(answer);
                     }
-                    AGAIN => forget(tx),
-                    code => return Err(error(code)),
-                },
+                }
                 Err(Stop::Again) => forget(tx),
                 Err(Stop::Retry) => {
                     waits = waits.saturating_add(1);
@@ -509,9 +519,9 @@ impl<'m> Thread<'m> {
     fn begin(&mut self) -> Result<(), Error> {
         let mut code = unsafe { dstmc_begin(&mut self.handle) };
         if code == OPEN {
-            // It is not lost: the closure has said so by itself.
+            // It is not lost: the closure was told so of another one.
             let _ = unsafe { dstmc_abort(&mut self.handle) };
-            code = unsafe { dstmc_begin(&mut self.handle) };
+            return Err(Error::Elsewhere);
         }
         if code == SPENT {
             self.renew()?;
@@ -549,6 +559,22 @@ impl Drop for Tx<'_, '_> {
 }
 
 impl<'m> Tx<'_, 'm> {
+    // Commits, and tells whether it has taken effect.
+    fn commit(self) -> Result<bool, Error> {
+        match unsafe { dstmc_commit(&mut self.thread.handle) } {
+            DONE => {
+                self.thread.memory.bell.ring();
+                forget(self);
+                Ok(true)
+            }
+            AGAIN => {
+                forget(self);
+                Ok(false)
+            }
+            code => Err(error(code)),
+        }
+    }
+
     fn mine<T>(&self, cell: Cell<T>) -> Result<u32, Stop> {
         if cell.memory == self.thread.memory.id {
             Ok(cell.object)

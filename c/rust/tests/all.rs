@@ -417,19 +417,57 @@ fn what_the_first_alternative_has_set_is_undone() {
 }
 
 #[test]
-fn a_closure_that_says_again_is_called_again() {
-    let mut memory = Memory::new(1).unwrap();
-    let cell = memory.cell(0u64).unwrap();
-    let mut me = memory.thread().unwrap();
-    let mut calls = 0;
-    let ended = me.atomically(|tx| {
-        calls += 1;
-        tx.update(cell, |n| n + 1)?;
-        if calls < 4 { Err(Stop::Again) } else { Ok(calls) }
-    });
-    assert_eq!(ended, Ok(4));
-    drop(me);
-    assert_eq!(memory.get(cell), Ok(1));
+fn a_closure_that_is_told_so_elsewhere_ends() {
+    for engine in ENGINES {
+        let mut first = Memory::with_engine(2, engine).unwrap();
+        let mut second = Memory::with_engine(1, engine).unwrap();
+        let (x, y) = (first.cell(0u64).unwrap(), first.cell(0u64).unwrap());
+        let z = second.cell(0u64).unwrap();
+        let (mut outer, mut other) = (first.thread().unwrap(), first.thread().unwrap());
+        let mut inner = second.thread().unwrap();
+        let mut calls = 0;
+        let sum = outer.atomically(|tx| {
+            let n = tx.get(x)?;
+            calls += 1;
+            if calls == 1 {
+                let both = |tx: &mut Tx<'_, '_>| {
+                    tx.set(x, 1)?;
+                    tx.set(y, 1)
+                };
+                assert_eq!(other.atomically(both), Ok(()));
+            }
+            let within = inner.atomically(|within| {
+                within.set(z, 7)?;
+                tx.get(y)
+            });
+            match within {
+                Ok(m) => Ok(n + m),
+                Err(Error::Elsewhere) => Err(Stop::Again),
+                Err(error) => Err(Stop::Failed(error)),
+            }
+        });
+        assert_eq!((sum, calls), (Ok(2), 2));
+        assert_eq!(inner.atomically(|_| Err::<(), _>(Stop::Again)), Err(Error::Elsewhere));
+        drop((outer, other, inner));
+        assert_eq!(second.get(z), Ok(7));
+    }
+}
+
+#[test]
+fn a_view_sets_nothing() {
+    for engine in ENGINES {
+        let mut memory = Memory::with_engine(1, engine).unwrap();
+        let cell = memory.cell(3u64).unwrap();
+        let mut me = memory.thread().unwrap();
+        let seen = me.view(|tx| {
+            tx.set(cell, 4)?;
+            tx.get(cell)
+        });
+        assert_eq!(seen, Ok(4));
+        assert_eq!(me.view(|_| Err::<(), _>(Stop::Failed(Error::Range))), Err(Error::Range));
+        drop(me);
+        assert_eq!(memory.get(cell), Ok(3));
+    }
 }
 
 #[test]
