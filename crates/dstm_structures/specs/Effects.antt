@@ -4,7 +4,7 @@ use Rattle.std.specs.Prelude.{◌≡◌, ℕ, ◌<◌, ◌≤◌, Bool, true, Li
 use Rattle.dstm_model.specs.declared.value.Law.{Ghosts}
 use Rattle.dstm_model.specs.declared.value.Val.{Val}
 use Rattle.dstm_tables.specs.declared.tables.Caller.{Caller}
-use Rattle.dstm_attempts.specs.Attempts.{IsClosed, Opens, objects_of}
+use Rattle.dstm_attempts.specs.Attempts.{IsClosed, Opens, StoodTogether, objects_of}
 use Rattle.dstm_cells.specs.Alternatives.{Notes, noting}
 use Rattle.dstm_cells.specs.UnderWay.{Keeps, MayBegin, seen}
 use Rattle.dstm_cells.specs.declared.error.Why.{Why}
@@ -53,3 +53,7 @@ module _ {L : Type 0} (holds : L → List Val → Type 0) where
   -- where there were values at which the attempt may have begun, there are still
   abbrev pub StillMay : Caller L → Caller L → Type 0
   StillMay old new = ((map : List Val) × MayBegin holds old map) → (map : List Val) × MayBegin holds new map
+
+  -- where what the attempt had read stood together at one moment, what it has read now does
+  abbrev pub StillTogether : Caller L → Caller L → Type 0
+  StillTogether old new = StoodTogether holds old → StoodTogether holds new

@@ -20,9 +20,9 @@ module _ {B : Type 0} (stands : B → List Val → List Val → Type 0) where
   abbrev pub Shows : (List Val → Type 0) → B → Type 0
   Shows fact by = (map values : List Val) → stands by map values → fact values
 
-  -- there are values at which it stands
-  abbrev pub StandsSomewhere : B → Type 0
-  StandsSomewhere by = (map : List Val) × (values : List Val) × stands by map values
+  -- there are values at which it stands, and what it has read stood together at one moment
+  abbrev pub StandsSomewhere : (together : B → Type 0) → B → Type 0
+  StandsSomewhere together by = (map : List Val) × (values : List Val) × stands by map values × together by
 
 -- ---- a transaction under way
 

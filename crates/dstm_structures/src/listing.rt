@@ -1,8 +1,9 @@
 // What a map or a set has altogether: its items, and how many there are.
 ghost use Rattle.std.specs.Prelude.{◌≡◌, ◌<◌, ◌≤◌, List, false, true, if◌then◌else◌, is_some, IfErr, IfOk, OnOk};
+ghost use Rattle.dstm_attempts.specs.Attempts.{StoodTogether};
 ghost use Rattle.dstm_cells.specs.UnderWay.{MayBegin};
 ghost use Rattle.dstm_model.specs.declared.value.Val.{Val};
-ghost use Rattle.dstm_structures.specs.Effects.{Does, GoesOn, StillMay, Stops};
+ghost use Rattle.dstm_structures.specs.Effects.{Does, GoesOn, StillMay, StillTogether, Stops};
 ghost use Rattle.dstm_structures.specs.Items.{Counts, Lists, ListsAbove, ListsInOrder, Stands, if_above};
 ghost use Rattle.dstm_structures.specs.Maps.{end_of};
 ghost use Rattle.dstm_structures.specs.Orders.{order_end};
@@ -23,6 +24,7 @@ impl<V: Word> HashMap<V> {
         ensures stops { IfErr result (λ stop. Stops (end_of self) false tx.old tx.new stop.why) }
         ensures counts { IfOk result (λ count. Does L.holds (end_of self) (Counts V.found self count)
             tx.old.attempts.caller tx.new.attempts.caller) }
+        ensures together { OnOk result (StoodTogether L.holds tx.new.attempts.caller) }
         ensures may { OnOk result ((map : List Val) × MayBegin L.holds tx.new.attempts.caller map) }
     {
         let mut count: u32 = 0;
@@ -43,6 +45,7 @@ impl<V: Word> HashMap<V> {
         ensures stops { IfErr result (λ stop. Stops (end_of self) true tx.old tx.new stop.why) }
         ensures lists { IfOk result (λ items. Does L.holds (end_of self) (Lists V.found self items.items)
             tx.old.attempts.caller tx.new.attempts.caller) }
+        ensures together { OnOk result (StoodTogether L.holds tx.new.attempts.caller) }
         ensures may { OnOk result ((map : List Val) × MayBegin L.holds tx.new.attempts.caller map) }
     {
         let items = self.items_by(tx, alloc)?;
@@ -60,6 +63,7 @@ impl<V: Word> HashMap<V> {
         ensures stops { IfErr result (λ stop. Stops (end_of self) false tx.old tx.new stop.why) }
         ensures stands { IfOk result (λ key. Does L.holds (end_of self) (Stands self at key)
             tx.old.attempts.caller tx.new.attempts.caller) }
+        ensures together { OnOk result (StoodTogether L.holds tx.new.attempts.caller) }
         ensures may { OnOk result ((map : List Val) × MayBegin L.holds tx.new.attempts.caller map) }
     {
         let key = self.stands_by(tx, at)?;
@@ -74,6 +78,7 @@ impl<V: Word> OrderedMap<V> {
         ensures stops { IfErr result (λ stop. Stops (end_of self.map) false tx.old tx.new stop.why) }
         ensures counts { IfOk result (λ count. Does L.holds (end_of self.map) (Counts V.found self.map count)
             tx.old.attempts.caller tx.new.attempts.caller) }
+        ensures together { OnOk result (StoodTogether L.holds tx.new.attempts.caller) }
         ensures may { OnOk result ((map : List Val) × MayBegin L.holds tx.new.attempts.caller map) }
     {
         self.map.len(tx)
@@ -89,6 +94,7 @@ impl<V: Word> OrderedMap<V> {
         ensures stops { IfErr result (λ stop. Stops (order_end self.map.cells) true tx.old tx.new stop.why) }
         ensures lists { IfOk result (λ items. Does L.holds (order_end self.map.cells) (ListsInOrder V.found self items.items)
             tx.old.attempts.caller tx.new.attempts.caller) }
+        ensures together { OnOk result (StoodTogether L.holds tx.new.attempts.caller) }
         ensures may { OnOk result ((map : List Val) × MayBegin L.holds tx.new.attempts.caller map) }
     {
         let mut items = Vec::new(alloc);
@@ -114,6 +120,7 @@ impl<V: Word> OrderedMap<V> {
         ensures stops { IfErr result (λ stop. Stops (order_end self.map.cells) true tx.old tx.new stop.why) }
         ensures lists { IfOk result (λ items. Does L.holds (order_end self.map.cells)
             (ListsAbove V.found self key most items.items) tx.old.attempts.caller tx.new.attempts.caller) }
+        ensures together { OnOk result (StillTogether L.holds tx.old.attempts.caller tx.new.attempts.caller) }
         ensures may { OnOk result (StillMay L.holds tx.old.attempts.caller tx.new.attempts.caller) }
     {
         let mut items = Vec::new(alloc);
@@ -137,6 +144,7 @@ impl OrderedSet {
         ensures stops { IfErr result (λ stop. Stops (end_of self.map.map) false tx.old tx.new stop.why) }
         ensures counts { IfOk result (λ count. Does L.holds (end_of self.map.map) (sets.Counts self count)
             tx.old.attempts.caller tx.new.attempts.caller) }
+        ensures together { OnOk result (StoodTogether L.holds tx.new.attempts.caller) }
         ensures may { OnOk result ((map : List Val) × MayBegin L.holds tx.new.attempts.caller map) }
     {
         let count = self.map.len(tx)?;
@@ -155,6 +163,7 @@ impl OrderedSet {
         ensures stops { IfErr result (λ stop. Stops (order_end self.map.map.cells) true tx.old tx.new stop.why) }
         ensures lists { IfOk result (λ keys. Does L.holds (order_end self.map.map.cells)
             (sets.ListsAbove self key most keys.items) tx.old.attempts.caller tx.new.attempts.caller) }
+        ensures together { OnOk result (StillTogether L.holds tx.old.attempts.caller tx.new.attempts.caller) }
         ensures may { OnOk result (StillMay L.holds tx.old.attempts.caller tx.new.attempts.caller) }
     {
         let items = self.map.list_above(tx, key, most, alloc)?;

@@ -17,6 +17,9 @@ pub(crate) trait Looks {
     // It stands at these values, if it has begun at this map.
     ghost Stands: { Self → List Val → List Val → Type 0 };
 
+    // What it has read stood together at one moment.
+    ghost Together: { Self → Type 0 };
+
     // It has only looked, and stands where it stood.
     ghost Stays: { Self → Self → Type 0 };
 
@@ -29,7 +32,7 @@ pub(crate) trait Looks {
         ensures stays { Stays self.old self.new }
         ensures fails { IfErr result (λ why. (size : ℕ) → cell.object < size → Fails false size self.old self.new why) }
         ensures is { IfOk result (λ value. Shows Stands (λ values. value ≡ T.found (value_at values cell.object)) self.new) }
-        ensures may { OnOk result (StandsSomewhere Stands self.new) };
+        ensures may { OnOk result (StandsSomewhere Stands Together self.new) };
 
     // There is not enough memory for a list.
     fn lacks(error: AllocError) -> Self::Err
@@ -48,11 +51,14 @@ pub(crate) trait Looks {
 }
 
 impl<L: Law, S: Holds<L>> Looks for Attempt<L, S> {
+    ghost use Rattle.dstm_attempts.specs.Attempts.{StoodTogether};
     ghost use Rattle.dstm_structures.specs.Looks.{looks-again, looks-narrow, looks-still, stops-later, stops-listing};
 
     type Err = Stop;
 
     ghost Stands = { λ tx. StandsAt L.holds tx };
+
+    ghost Together = { λ tx. StoodTogether L.holds tx.attempts.caller };
 
     ghost Stays = { λ old new. OnlyLooks L.holds old new };
 
@@ -91,6 +97,8 @@ impl<L: Law + Copy> Looks for Between<'_, L> {
     type Err = Failed;
 
     ghost Stands = { λ by map values. by.memory.now.values.items ≡ values };
+
+    ghost Together = { λ by. Unit {0} };
 
     ghost Stays = { λ old new. new ≡ old };
 

@@ -1,10 +1,11 @@
 // A hash map in the cells of a memory.
 ghost use Rattle.std.specs.Prelude.{◌≡◌, ◌⊎◌, ◌↔◌, ◌+◌, ◌*◌, ◌<◌, ◌≤◌, List, false, length, Err, IfErr, IfOk, IfSome, MatchOption, OnOk};
+ghost use Rattle.dstm_attempts.specs.Attempts.{StoodTogether};
 ghost use Rattle.dstm_cells.specs.Cells.{WantsRoom};
 ghost use Rattle.dstm_cells.specs.UnderWay.{MayBegin};
 ghost use Rattle.dstm_cells.specs.declared.error.Failed.TheVariants as failed;
 ghost use Rattle.dstm_model.specs.declared.value.Val.{Val};
-ghost use Rattle.dstm_structures.specs.Effects.{Does, GoesOn, StillMay, Stops};
+ghost use Rattle.dstm_structures.specs.Effects.{Does, GoesOn, StillMay, StillTogether, Stops};
 ghost use Rattle.dstm_structures.specs.Maps.{Adds, ClearsAll, Empties, Frees, Inserts, Puts, Reaches, Removes, Seeks, SetsKey, SetsReach, Stores, Tells, TellsIf, end_of, home_in, outcome};
 ghost use Rattle.dstm_structures.specs.Places.{is_free, is_key};
 
@@ -83,6 +84,7 @@ impl<V: Word> HashMap<V> {
         ensures stops { IfErr result (λ stop. Stops (end_of self) false tx.old tx.new stop.why) }
         ensures tells { IfOk result (λ answer. Does L.holds (end_of self) (Tells V.found self key answer)
             tx.old.attempts.caller tx.new.attempts.caller) }
+        ensures together { OnOk result (StoodTogether L.holds tx.new.attempts.caller) }
         ensures may { OnOk result ((map : List Val) × MayBegin L.holds tx.new.attempts.caller map) }
     {
         let answer = self.item_by(tx, key)?;
@@ -99,6 +101,7 @@ impl<V: Word> HashMap<V> {
         ensures stops { IfErr result (λ stop. Stops (end_of self) false tx.old tx.new stop.why) }
         ensures tells { IfOk result (λ answer. Does L.holds (end_of self) (TellsIf V.found self key answer)
             tx.old.attempts.caller tx.new.attempts.caller) }
+        ensures together { OnOk result (StoodTogether L.holds tx.new.attempts.caller) }
         ensures may { OnOk result ((map : List Val) × MayBegin L.holds tx.new.attempts.caller map) }
     {
         let found = self.find(tx, key)?;
@@ -116,6 +119,7 @@ impl<V: Word> HashMap<V> {
         ensures stops { IfErr result (λ stop. Stops (end_of self) tx.old.notes tx.old tx.new stop.why) }
         ensures puts { IfOk result (λ placed. Does L.holds (end_of self) (Puts V.found self key value placed)
             tx.old.attempts.caller tx.new.attempts.caller) }
+        ensures together { OnOk result (StoodTogether L.holds tx.new.attempts.caller) }
         ensures may { OnOk result ((map : List Val) × MayBegin L.holds tx.new.attempts.caller map) }
     {
         let found = self.find(tx, key)?;
@@ -137,6 +141,7 @@ impl<V: Word> HashMap<V> {
         ensures stops { IfErr result (λ stop. Stops (end_of self) tx.old.notes tx.old tx.new stop.why) }
         ensures removes { IfOk result (λ removed. Does L.holds (end_of self) (Removes V.found self key removed)
             tx.old.attempts.caller tx.new.attempts.caller) }
+        ensures together { OnOk result (StoodTogether L.holds tx.new.attempts.caller) }
         ensures may { OnOk result ((map : List Val) × MayBegin L.holds tx.new.attempts.caller map) }
     {
         let found = self.get(tx, key)?;
@@ -168,6 +173,7 @@ impl<V: Word> HashMap<V> {
         ensures within { IfOk result (λ place. IfSome place (λ at. at < self.cells.capacity)) }
         ensures seeks { IfOk result (λ place. Does L.holds (end_of self) (Seeks self key place)
             tx.old.attempts.caller tx.new.attempts.caller) }
+        ensures together { OnOk result (StoodTogether L.holds tx.new.attempts.caller) }
         ensures may { OnOk result ((map : List Val) × MayBegin L.holds tx.new.attempts.caller map) }
     {
         let place = self.find_by(tx, key)?;
@@ -186,6 +192,7 @@ impl<V: Word> HashMap<V> {
         ensures within { IfOk result (λ place. IfSome place (λ at. at < self.cells.capacity)) }
         ensures inserts { IfOk result (λ place. Does L.holds (end_of self) (Inserts V.found self key value place)
             tx.old.attempts.caller tx.new.attempts.caller) }
+        ensures together { OnOk result (StoodTogether L.holds tx.new.attempts.caller) }
         ensures may { OnOk result ((map : List Val) × MayBegin L.holds tx.new.attempts.caller map) }
     {
         let home = self.home(key);
@@ -216,6 +223,7 @@ impl<V: Word> HashMap<V> {
         ensures within { IfOk result (λ free. IfSome free (λ passed. passed < self.cells.capacity)) }
         ensures frees { IfOk result (λ free. Does L.holds (end_of self) (Frees self home reach free)
             tx.old.attempts.caller tx.new.attempts.caller) }
+        ensures together { OnOk result (StillTogether L.holds tx.old.attempts.caller tx.new.attempts.caller) }
         ensures may { OnOk result (StillMay L.holds tx.old.attempts.caller tx.new.attempts.caller) }
     {
         for passed in 0..self.cells.capacity {
@@ -241,6 +249,7 @@ impl<V: Word> HashMap<V> {
         ensures stops { IfErr result (λ stop. Stops (end_of self) tx.old.notes tx.old tx.new stop.why) }
         ensures stores { OnOk result (Does L.holds (end_of self) (Stores V.found self at key value)
             tx.old.attempts.caller tx.new.attempts.caller) }
+        ensures together { OnOk result (StoodTogether L.holds tx.new.attempts.caller) }
         ensures may { OnOk result ((map : List Val) × MayBegin L.holds tx.new.attempts.caller map) }
     {
         tx.set(self.value_at(at), value)?;
@@ -260,6 +269,7 @@ impl<V: Word> HashMap<V> {
         ensures stops { IfErr result (λ stop. Stops (end_of self) tx.old.notes tx.old tx.new stop.why) }
         ensures sets { OnOk result (Does L.holds (end_of self) (SetsKey self at key)
             tx.old.attempts.caller tx.new.attempts.caller) }
+        ensures together { OnOk result (StoodTogether L.holds tx.new.attempts.caller) }
         ensures may { OnOk result ((map : List Val) × MayBegin L.holds tx.new.attempts.caller map) }
     {
         let _before = tx.update(self.cells.slot_at(at), |slot| Slot { key, ..slot })?;
@@ -279,6 +289,7 @@ impl<V: Word> HashMap<V> {
         ensures stops { IfErr result (λ stop. Stops (end_of self) tx.old.notes tx.old tx.new stop.why) }
         ensures sets { OnOk result (Does L.holds (end_of self) (SetsReach self home far)
             tx.old.attempts.caller tx.new.attempts.caller) }
+        ensures together { OnOk result (StoodTogether L.holds tx.new.attempts.caller) }
         ensures may { OnOk result ((map : List Val) × MayBegin L.holds tx.new.attempts.caller map) }
     {
         let _before = tx.update(self.cells.slot_at(home), |slot| Slot { reach: far, ..slot })?;
@@ -295,6 +306,7 @@ impl<V: Word> HashMap<V> {
         ensures stops { IfErr result (λ stop. Stops (end_of self) tx.old.notes tx.old tx.new stop.why) }
         ensures clears { OnOk result (Does L.holds (end_of self) (ClearsAll self key)
             tx.old.attempts.caller tx.new.attempts.caller) }
+        ensures together { OnOk result (StoodTogether L.holds tx.new.attempts.caller) }
         ensures may { OnOk result ((map : List Val) × MayBegin L.holds tx.new.attempts.caller map) }
     {
         let home = self.home(key);
@@ -317,6 +329,7 @@ impl<V: Word> HashMap<V> {
         ensures stops { IfErr result (λ stop. Stops (end_of self) tx.old.notes tx.old tx.new stop.why) }
         ensures empties { OnOk result (Does L.holds (end_of self) (Empties self at key)
             tx.old.attempts.caller tx.new.attempts.caller) }
+        ensures together { OnOk result (StoodTogether L.holds tx.new.attempts.caller) }
         ensures may { OnOk result ((map : List Val) × MayBegin L.holds tx.new.attempts.caller map) }
     {
         let slot = tx.get(self.cells.slot_at(at))?;
@@ -335,6 +348,7 @@ impl<V: Word> HashMap<V> {
         ensures most { IfOk result (λ reach. reach ≤ self.cells.capacity) }
         ensures reaches { IfOk result (λ reach. Does L.holds (end_of self) (Reaches self home reach)
             tx.old.attempts.caller tx.new.attempts.caller) }
+        ensures together { OnOk result (StoodTogether L.holds tx.new.attempts.caller) }
         ensures may { OnOk result ((map : List Val) × MayBegin L.holds tx.new.attempts.caller map) }
     {
         let reach = self.reach_by(tx, home)?;

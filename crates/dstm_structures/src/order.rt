@@ -1,9 +1,10 @@
 // The order of a map's keys: a trie of their bits, in cells of its own. Its tips are places of the map, and each fork stands in
 // a cell and parts the keys below it by one bit.
 ghost use Rattle.std.specs.Prelude.{◌≡◌, ◌+◌, ◌*◌, ◌<◌, ◌≤◌, List, false, if◌then◌else◌, IfErr, IfOk, IfSome, OnOk};
+ghost use Rattle.dstm_attempts.specs.Attempts.{StoodTogether};
 ghost use Rattle.dstm_cells.specs.UnderWay.{MayBegin};
 ghost use Rattle.dstm_model.specs.declared.value.Val.{Val};
-ghost use Rattle.dstm_structures.specs.Effects.{Does, GoesOn, StillMay, Stops};
+ghost use Rattle.dstm_structures.specs.Effects.{Does, GoesOn, StillMay, StillTogether, Stops};
 ghost use Rattle.dstm_structures.specs.Orders.{Ends, EndsAll, Follows, FollowsAll, IsInside, Precedes, PrecedesAll, is_above, is_below, left_in, level_in, link_in, order_end, right_in};
 
 use crate::cells::{Rows, cell};
@@ -101,6 +102,7 @@ impl Order {
         ensures within { IfOk result (λ place. IfSome place (λ at. at < self.cells.capacity)) }
         ensures ends { IfOk result (λ place. Does L.holds (order_end self.cells) (EndsAll self.cells greatest place)
             tx.old.attempts.caller tx.new.attempts.caller) }
+        ensures together { OnOk result (StoodTogether L.holds tx.new.attempts.caller) }
         ensures may { OnOk result ((map : List Val) × MayBegin L.holds tx.new.attempts.caller map) }
     {
         let root = tx.get(self.root_at())?;
@@ -119,6 +121,7 @@ impl Order {
         ensures within { IfOk result (λ place. IfSome place (λ at. at < self.cells.capacity)) }
         ensures follows { IfOk result (λ place. Does L.holds (order_end self.cells) (FollowsAll self.cells key place)
             tx.old.attempts.caller tx.new.attempts.caller) }
+        ensures together { OnOk result (StoodTogether L.holds tx.new.attempts.caller) }
         ensures may { OnOk result ((map : List Val) × MayBegin L.holds tx.new.attempts.caller map) }
     {
         let root = tx.get(self.root_at())?;
@@ -137,6 +140,7 @@ impl Order {
         ensures within { IfOk result (λ place. IfSome place (λ at. at < self.cells.capacity)) }
         ensures precedes { IfOk result (λ place. Does L.holds (order_end self.cells) (PrecedesAll self.cells key place)
             tx.old.attempts.caller tx.new.attempts.caller) }
+        ensures together { OnOk result (StoodTogether L.holds tx.new.attempts.caller) }
         ensures may { OnOk result ((map : List Val) × MayBegin L.holds tx.new.attempts.caller map) }
     {
         let root = tx.get(self.root_at())?;
@@ -158,6 +162,7 @@ impl Order {
         ensures within { IfOk result (λ place. IfSome place (λ at. at < self.cells.capacity)) }
         ensures ends { IfOk result (λ place. Does L.holds (order_end self.cells) (Ends self.cells greatest link under place)
             tx.old.attempts.caller tx.new.attempts.caller) }
+        ensures together { OnOk result (StillTogether L.holds tx.old.attempts.caller tx.new.attempts.caller) }
         ensures may { OnOk result (StillMay L.holds tx.old.attempts.caller tx.new.attempts.caller) }
     {
         match self.link(link) {
@@ -188,6 +193,7 @@ impl Order {
         ensures within { IfOk result (λ place. IfSome place (λ at. at < self.cells.capacity)) }
         ensures follows { IfOk result (λ place. Does L.holds (order_end self.cells) (Follows self.cells key link under place)
             tx.old.attempts.caller tx.new.attempts.caller) }
+        ensures together { OnOk result (StillTogether L.holds tx.old.attempts.caller tx.new.attempts.caller) }
         ensures may { OnOk result (StillMay L.holds tx.old.attempts.caller tx.new.attempts.caller) }
     {
         match self.link(link) {
@@ -241,6 +247,7 @@ impl Order {
         ensures within { IfOk result (λ place. IfSome place (λ at. at < self.cells.capacity)) }
         ensures precedes { IfOk result (λ place. Does L.holds (order_end self.cells) (Precedes self.cells key link under place)
             tx.old.attempts.caller tx.new.attempts.caller) }
+        ensures together { OnOk result (StillTogether L.holds tx.old.attempts.caller tx.new.attempts.caller) }
         ensures may { OnOk result (StillMay L.holds tx.old.attempts.caller tx.new.attempts.caller) }
     {
         match self.link(link) {

@@ -1,10 +1,11 @@
 // An ordered map in the cells of a memory.
 ghost use Rattle.std.specs.Prelude.{◌≡◌, ◌⊎◌, ◌↔◌, ◌+◌, ◌*◌, ◌<◌, ◌≤◌, List, None, false, length, Err, IfErr, IfOk, IfSome, MatchOption, OnOk};
+ghost use Rattle.dstm_attempts.specs.Attempts.{StoodTogether};
 ghost use Rattle.dstm_cells.specs.Cells.{WantsRoom};
 ghost use Rattle.dstm_cells.specs.UnderWay.{MayBegin};
 ghost use Rattle.dstm_cells.specs.declared.error.Failed.TheVariants as failed;
 ghost use Rattle.dstm_model.specs.declared.value.Val.{Val};
-ghost use Rattle.dstm_structures.specs.Effects.{Does, GoesOn, StillMay, Stops};
+ghost use Rattle.dstm_structures.specs.Effects.{Does, GoesOn, StillMay, StillTogether, Stops};
 ghost use Rattle.dstm_structures.specs.Maps.{Tells, TellsIf, end_of, had_by};
 ghost use Rattle.dstm_structures.specs.Ordered.{Adding, Adds, Looks, Pops, PopsEnd, PopsLast, Puts, Removes, Takes, TellsAbove, TellsBelow, TellsEnd, TellsFirst, TellsLast};
 ghost use Rattle.dstm_structures.specs.Orders.{order_end};
@@ -84,6 +85,7 @@ impl<V: Word> OrderedMap<V> {
         ensures stops { IfErr result (λ stop. Stops (end_of self.map) false tx.old tx.new stop.why) }
         ensures tells { IfOk result (λ answer. Does L.holds (end_of self.map) (Tells V.found self.map key answer)
             tx.old.attempts.caller tx.new.attempts.caller) }
+        ensures together { OnOk result (StoodTogether L.holds tx.new.attempts.caller) }
         ensures may { OnOk result ((map : List Val) × MayBegin L.holds tx.new.attempts.caller map) }
     {
         self.map.get(tx, key)
@@ -99,6 +101,7 @@ impl<V: Word> OrderedMap<V> {
         ensures stops { IfErr result (λ stop. Stops (end_of self.map) false tx.old tx.new stop.why) }
         ensures tells { IfOk result (λ answer. Does L.holds (end_of self.map) (TellsIf V.found self.map key answer)
             tx.old.attempts.caller tx.new.attempts.caller) }
+        ensures together { OnOk result (StoodTogether L.holds tx.new.attempts.caller) }
         ensures may { OnOk result ((map : List Val) × MayBegin L.holds tx.new.attempts.caller map) }
     {
         self.map.contains(tx, key)
@@ -115,6 +118,7 @@ impl<V: Word> OrderedMap<V> {
         ensures stops { IfErr result (λ stop. Stops (order_end self.map.cells) tx.old.notes tx.old tx.new stop.why) }
         ensures puts { IfOk result (λ placed. Does L.holds (order_end self.map.cells) (Puts V.found self key value placed)
             tx.old.attempts.caller tx.new.attempts.caller) }
+        ensures together { OnOk result (StoodTogether L.holds tx.new.attempts.caller) }
         ensures may { OnOk result ((map : List Val) × MayBegin L.holds tx.new.attempts.caller map) }
     {
         let found = self.map.find(tx, key)?;
@@ -136,6 +140,7 @@ impl<V: Word> OrderedMap<V> {
         ensures stops { IfErr result (λ stop. Stops (order_end self.map.cells) tx.old.notes tx.old tx.new stop.why) }
         ensures removes { IfOk result (λ removed. Does L.holds (order_end self.map.cells) (Removes V.found self key removed)
             tx.old.attempts.caller tx.new.attempts.caller) }
+        ensures together { OnOk result (StoodTogether L.holds tx.new.attempts.caller) }
         ensures may { OnOk result ((map : List Val) × MayBegin L.holds tx.new.attempts.caller map) }
     {
         let found = self.map.find(tx, key)?;
@@ -156,6 +161,7 @@ impl<V: Word> OrderedMap<V> {
         ensures stops { IfErr result (λ stop. Stops (order_end self.map.cells) false tx.old tx.new stop.why) }
         ensures tells { IfOk result (λ answer. Does L.holds (order_end self.map.cells) (TellsFirst V.found self answer)
             tx.old.attempts.caller tx.new.attempts.caller) }
+        ensures together { OnOk result (StoodTogether L.holds tx.new.attempts.caller) }
         ensures may { OnOk result ((map : List Val) × MayBegin L.holds tx.new.attempts.caller map) }
     {
         self.end(tx, false)
@@ -167,6 +173,7 @@ impl<V: Word> OrderedMap<V> {
         ensures stops { IfErr result (λ stop. Stops (order_end self.map.cells) false tx.old tx.new stop.why) }
         ensures tells { IfOk result (λ answer. Does L.holds (order_end self.map.cells) (TellsLast V.found self answer)
             tx.old.attempts.caller tx.new.attempts.caller) }
+        ensures together { OnOk result (StoodTogether L.holds tx.new.attempts.caller) }
         ensures may { OnOk result ((map : List Val) × MayBegin L.holds tx.new.attempts.caller map) }
     {
         self.end(tx, true)
@@ -182,6 +189,7 @@ impl<V: Word> OrderedMap<V> {
         ensures stops { IfErr result (λ stop. Stops (order_end self.map.cells) false tx.old tx.new stop.why) }
         ensures tells { IfOk result (λ answer. Does L.holds (order_end self.map.cells) (TellsAbove V.found self key answer)
             tx.old.attempts.caller tx.new.attempts.caller) }
+        ensures together { OnOk result (StoodTogether L.holds tx.new.attempts.caller) }
         ensures may { OnOk result ((map : List Val) × MayBegin L.holds tx.new.attempts.caller map) }
     {
         let order = Order {
@@ -202,6 +210,7 @@ impl<V: Word> OrderedMap<V> {
         ensures stops { IfErr result (λ stop. Stops (order_end self.map.cells) false tx.old tx.new stop.why) }
         ensures tells { IfOk result (λ answer. Does L.holds (order_end self.map.cells) (TellsBelow V.found self key answer)
             tx.old.attempts.caller tx.new.attempts.caller) }
+        ensures together { OnOk result (StoodTogether L.holds tx.new.attempts.caller) }
         ensures may { OnOk result ((map : List Val) × MayBegin L.holds tx.new.attempts.caller map) }
     {
         let order = Order {
@@ -221,6 +230,7 @@ impl<V: Word> OrderedMap<V> {
         ensures stops { IfErr result (λ stop. Stops (order_end self.map.cells) tx.old.notes tx.old tx.new stop.why) }
         ensures pops { IfOk result (λ popped. Does L.holds (order_end self.map.cells) (Pops V.found self popped)
             tx.old.attempts.caller tx.new.attempts.caller) }
+        ensures together { OnOk result (StoodTogether L.holds tx.new.attempts.caller) }
         ensures may { OnOk result ((map : List Val) × MayBegin L.holds tx.new.attempts.caller map) }
     {
         self.pop(tx, false)
@@ -235,6 +245,7 @@ impl<V: Word> OrderedMap<V> {
         ensures stops { IfErr result (λ stop. Stops (order_end self.map.cells) tx.old.notes tx.old tx.new stop.why) }
         ensures pops { IfOk result (λ popped. Does L.holds (order_end self.map.cells) (PopsLast V.found self popped)
             tx.old.attempts.caller tx.new.attempts.caller) }
+        ensures together { OnOk result (StoodTogether L.holds tx.new.attempts.caller) }
         ensures may { OnOk result ((map : List Val) × MayBegin L.holds tx.new.attempts.caller map) }
     {
         self.pop(tx, true)
@@ -250,6 +261,7 @@ impl<V: Word> OrderedMap<V> {
         ensures stops { IfErr result (λ stop. Stops (order_end self.map.cells) tx.old.notes tx.old tx.new stop.why) }
         ensures pops { IfOk result (λ popped. Does L.holds (order_end self.map.cells) (PopsEnd V.found self greatest popped)
             tx.old.attempts.caller tx.new.attempts.caller) }
+        ensures together { OnOk result (StoodTogether L.holds tx.new.attempts.caller) }
         ensures may { OnOk result ((map : List Val) × MayBegin L.holds tx.new.attempts.caller map) }
     {
         let end = self.end(tx, greatest)?;
@@ -270,6 +282,7 @@ impl<V: Word> OrderedMap<V> {
         ensures stops { IfErr result (λ stop. Stops (order_end self.map.cells) false tx.old tx.new stop.why) }
         ensures tells { IfOk result (λ answer. Does L.holds (order_end self.map.cells) (TellsEnd V.found self greatest answer)
             tx.old.attempts.caller tx.new.attempts.caller) }
+        ensures together { OnOk result (StoodTogether L.holds tx.new.attempts.caller) }
         ensures may { OnOk result ((map : List Val) × MayBegin L.holds tx.new.attempts.caller map) }
     {
         let order = Order {
@@ -292,6 +305,7 @@ impl<V: Word> OrderedMap<V> {
         ensures absent { IfOk result (λ placed. had_by placed ≡ None) }
         ensures adds { IfOk result (λ placed. Does L.holds (order_end self.map.cells) (Adding V.found self key value placed)
             tx.old.attempts.caller tx.new.attempts.caller) }
+        ensures together { OnOk result (StillTogether L.holds tx.old.attempts.caller tx.new.attempts.caller) }
         ensures may { OnOk result (StillMay L.holds tx.old.attempts.caller tx.new.attempts.caller) }
     {
         let order = Order {
@@ -321,6 +335,7 @@ impl<V: Word> OrderedMap<V> {
         ensures stops { IfErr result (λ stop. Stops (order_end self.map.cells) tx.old.notes tx.old tx.new stop.why) }
         ensures takes { OnOk result (Does L.holds (order_end self.map.cells) (Takes V.found self key at)
             tx.old.attempts.caller tx.new.attempts.caller) }
+        ensures together { OnOk result (StoodTogether L.holds tx.new.attempts.caller) }
         ensures may { OnOk result ((map : List Val) × MayBegin L.holds tx.new.attempts.caller map) }
     {
         let order = Order {
@@ -342,6 +357,7 @@ impl<V: Word> OrderedMap<V> {
         ensures stops { IfErr result (λ stop. Stops (order_end self.map.cells) false tx.old tx.new stop.why) }
         ensures looks { IfOk result (λ answer. Does L.holds (order_end self.map.cells) (Looks V.found self place answer)
             tx.old.attempts.caller tx.new.attempts.caller) }
+        ensures together { OnOk result (StillTogether L.holds tx.old.attempts.caller tx.new.attempts.caller) }
         ensures may { OnOk result (StillMay L.holds tx.old.attempts.caller tx.new.attempts.caller) }
     {
         let Some(at) = place else {

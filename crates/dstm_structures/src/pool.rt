@@ -1,5 +1,6 @@
 // A pool of cells in the cells of a memory.
 ghost use Rattle.std.specs.Prelude.{◌≡◌, ◌⊎◌, ◌↔◌, ◌+◌, ◌*◌, ◌%◌, ◌<◌, ◌≤◌, List, None, false, length, Err, IfErr, IfOk, IfSome, MatchOption, OnOk};
+ghost use Rattle.dstm_attempts.specs.Attempts.{StoodTogether};
 ghost use Rattle.dstm_cells.specs.Cells.{WantsRoom};
 ghost use Rattle.dstm_cells.specs.UnderWay.{MayBegin};
 ghost use Rattle.dstm_cells.specs.declared.error.Failed.TheVariants as failed;
@@ -79,6 +80,7 @@ impl<T: Word> Pool<T> {
             (Takes self T.found (from % self.cells.capacity) value taken) tx.old.attempts.caller tx.new.attempts.caller) }
         ensures opens { IfOk result (λ taken. OpensToTake self L.holds (from % self.cells.capacity) taken
             tx.old.attempts.caller tx.new.attempts.caller) }
+        ensures together { OnOk result (StoodTogether L.holds tx.new.attempts.caller) }
         ensures may { OnOk result ((map : List Val) × MayBegin L.holds tx.new.attempts.caller map) }
     {
         let free = self.free(tx, from % self.cells.capacity)?;
@@ -103,6 +105,7 @@ impl<T: Word> Pool<T> {
         ensures gives { IfOk result (λ was. Does L.holds (end_of self) (Gives self given.object was)
             tx.old.attempts.caller tx.new.attempts.caller) }
         ensures opens { IfOk result (λ was. OpensToGive self L.holds was tx.old.attempts.caller tx.new.attempts.caller) }
+        ensures together { OnOk result (StoodTogether L.holds tx.new.attempts.caller) }
         ensures may { OnOk result ((map : List Val) × MayBegin L.holds tx.new.attempts.caller map) }
     {
         let place = self.place_of(given);
@@ -132,6 +135,7 @@ impl<T: Word> Pool<T> {
             tx.old.attempts.caller tx.new.attempts.caller) }
         ensures opens { IfOk result (λ place. OpensToSeek self L.holds start place
             tx.old.attempts.caller tx.new.attempts.caller) }
+        ensures together { OnOk result (StoodTogether L.holds tx.new.attempts.caller) }
         ensures may { OnOk result ((map : List Val) × MayBegin L.holds tx.new.attempts.caller map) }
     {
         for passed in 0..self.cells.capacity {

@@ -1,5 +1,6 @@
 // A queue in the cells of a memory.
 ghost use Rattle.std.specs.Prelude.{◌≡◌, ◌⊎◌, ◌↔◌, ◌+◌, ◌<◌, List, false, true, length, Err, IfErr, IfOk, MatchOption, OnOk};
+ghost use Rattle.dstm_attempts.specs.Attempts.{StoodTogether};
 ghost use Rattle.dstm_cells.specs.Cells.{WantsRoom};
 ghost use Rattle.dstm_cells.specs.UnderWay.{MayBegin, stop_by};
 ghost use Rattle.dstm_cells.specs.declared.error.Failed.TheVariants as failed;
@@ -74,6 +75,7 @@ impl<T: Word> Queue<T> {
         ensures counts { IfOk result (λ count. Does L.holds (end_of self) (Counts T.found self count)
             tx.old.attempts.caller tx.new.attempts.caller) }
         ensures opens { OnOk result (OpensEnds T.found self L.holds tx.old.attempts.caller tx.new.attempts.caller) }
+        ensures together { OnOk result (StoodTogether L.holds tx.new.attempts.caller) }
         ensures may { OnOk result ((map : List Val) × MayBegin L.holds tx.new.attempts.caller map) }
     {
         let ends = tx.get(self.ends())?;
@@ -91,6 +93,7 @@ impl<T: Word> Queue<T> {
         ensures pushes { IfOk result (λ pushed. Does L.holds (end_of self) (Pushes T.found self value pushed)
             tx.old.attempts.caller tx.new.attempts.caller) }
         ensures opens { IfOk result (λ pushed. OpensToPush T.found self L.holds pushed tx.old.attempts.caller tx.new.attempts.caller) }
+        ensures together { OnOk result (StoodTogether L.holds tx.new.attempts.caller) }
         ensures may { OnOk result ((map : List Val) × MayBegin L.holds tx.new.attempts.caller map) }
     {
         let ends = tx.get(self.ends())?;
@@ -113,6 +116,7 @@ impl<T: Word> Queue<T> {
             tx.old.attempts.caller tx.new.attempts.caller) }
         ensures opens { OnOk result (OpensPlace T.found self L.holds true tx.old.attempts.caller tx.new.attempts.caller) }
         ensures looks { result ≡ Err (stop_by Retry) → OpensEnds T.found self L.holds tx.old.attempts.caller tx.new.attempts.caller }
+        ensures together { OnOk result (StoodTogether L.holds tx.new.attempts.caller) }
         ensures may { OnOk result ((map : List Val) × MayBegin L.holds tx.new.attempts.caller map) }
         ensures waits { result ≡ Err (stop_by Retry) → ((map : List Val) × MayBegin L.holds tx.new.attempts.caller map) }
     {
@@ -127,6 +131,7 @@ impl<T: Word> Queue<T> {
         ensures pops { IfOk result (λ popped. Does L.holds (end_of self) (Pops T.found self popped)
             tx.old.attempts.caller tx.new.attempts.caller) }
         ensures opens { IfOk result (λ popped. OpensToPop T.found self L.holds popped tx.old.attempts.caller tx.new.attempts.caller) }
+        ensures together { OnOk result (StoodTogether L.holds tx.new.attempts.caller) }
         ensures may { OnOk result ((map : List Val) × MayBegin L.holds tx.new.attempts.caller map) }
     {
         let ends = tx.get(self.ends())?;
@@ -149,6 +154,7 @@ impl<T: Word> Queue<T> {
             tx.old.attempts.caller tx.new.attempts.caller) }
         ensures opens { OnOk result (OpensPlace T.found self L.holds false tx.old.attempts.caller tx.new.attempts.caller) }
         ensures looks { result ≡ Err (stop_by Retry) → OpensEnds T.found self L.holds tx.old.attempts.caller tx.new.attempts.caller }
+        ensures together { OnOk result (StoodTogether L.holds tx.new.attempts.caller) }
         ensures may { OnOk result ((map : List Val) × MayBegin L.holds tx.new.attempts.caller map) }
         ensures waits { result ≡ Err (stop_by Retry) → ((map : List Val) × MayBegin L.holds tx.new.attempts.caller map) }
     {
@@ -166,6 +172,7 @@ impl<T: Word> Queue<T> {
         ensures fronts { IfOk result (λ front. Does L.holds (end_of self) (Fronts T.found self front)
             tx.old.attempts.caller tx.new.attempts.caller) }
         ensures opens { IfOk result (λ front. OpensToFront T.found self L.holds front tx.old.attempts.caller tx.new.attempts.caller) }
+        ensures together { OnOk result (StoodTogether L.holds tx.new.attempts.caller) }
         ensures may { OnOk result ((map : List Val) × MayBegin L.holds tx.new.attempts.caller map) }
     {
         let ends = tx.get(self.ends())?;

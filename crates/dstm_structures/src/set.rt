@@ -1,5 +1,6 @@
 // An ordered set in the cells of a memory.
 ghost use Rattle.std.specs.Prelude.{◌≡◌, ◌⊎◌, ◌↔◌, ◌+◌, ◌*◌, ◌<◌, List, false, length, Err, IfErr, IfOk, MatchOption, OnOk};
+ghost use Rattle.dstm_attempts.specs.Attempts.{StoodTogether};
 ghost use Rattle.dstm_cells.specs.Cells.{WantsRoom};
 ghost use Rattle.dstm_cells.specs.UnderWay.{MayBegin};
 ghost use Rattle.dstm_cells.specs.declared.error.Failed.TheVariants as failed;
@@ -89,6 +90,7 @@ impl OrderedSet {
         ensures stops { IfErr result (λ stop. Stops (end_of self.map.map) false tx.old tx.new stop.why) }
         ensures tells { IfOk result (λ answer. Does L.holds (end_of self.map.map) (TellsIf self key answer)
             tx.old.attempts.caller tx.new.attempts.caller) }
+        ensures together { OnOk result (StoodTogether L.holds tx.new.attempts.caller) }
         ensures may { OnOk result ((map : List Val) × MayBegin L.holds tx.new.attempts.caller map) }
     {
         self.map.contains(tx, key)
@@ -104,6 +106,7 @@ impl OrderedSet {
         ensures stops { IfErr result (λ stop. Stops (order_end self.map.map.cells) tx.old.notes tx.old tx.new stop.why) }
         ensures inserts { IfOk result (λ inserted. Does L.holds (order_end self.map.map.cells) (Inserts self key inserted)
             tx.old.attempts.caller tx.new.attempts.caller) }
+        ensures together { OnOk result (StoodTogether L.holds tx.new.attempts.caller) }
         ensures may { OnOk result ((map : List Val) × MayBegin L.holds tx.new.attempts.caller map) }
     {
         let found = self.map.map.find(tx, key)?;
@@ -120,6 +123,7 @@ impl OrderedSet {
         ensures stops { IfErr result (λ stop. Stops (order_end self.map.map.cells) tx.old.notes tx.old tx.new stop.why) }
         ensures removes { IfOk result (λ removed. Does L.holds (order_end self.map.map.cells) (Removes self key removed)
             tx.old.attempts.caller tx.new.attempts.caller) }
+        ensures together { OnOk result (StoodTogether L.holds tx.new.attempts.caller) }
         ensures may { OnOk result ((map : List Val) × MayBegin L.holds tx.new.attempts.caller map) }
     {
         let removed = self.map.remove(tx, key)?;
@@ -132,6 +136,7 @@ impl OrderedSet {
         ensures stops { IfErr result (λ stop. Stops (order_end self.map.map.cells) false tx.old tx.new stop.why) }
         ensures tells { IfOk result (λ answer. Does L.holds (order_end self.map.map.cells) (TellsFirst self answer)
             tx.old.attempts.caller tx.new.attempts.caller) }
+        ensures together { OnOk result (StoodTogether L.holds tx.new.attempts.caller) }
         ensures may { OnOk result ((map : List Val) × MayBegin L.holds tx.new.attempts.caller map) }
     {
         let first = self.map.first(tx)?;
@@ -144,6 +149,7 @@ impl OrderedSet {
         ensures stops { IfErr result (λ stop. Stops (order_end self.map.map.cells) false tx.old tx.new stop.why) }
         ensures tells { IfOk result (λ answer. Does L.holds (order_end self.map.map.cells) (TellsLast self answer)
             tx.old.attempts.caller tx.new.attempts.caller) }
+        ensures together { OnOk result (StoodTogether L.holds tx.new.attempts.caller) }
         ensures may { OnOk result ((map : List Val) × MayBegin L.holds tx.new.attempts.caller map) }
     {
         let last = self.map.last(tx)?;
@@ -160,6 +166,7 @@ impl OrderedSet {
         ensures stops { IfErr result (λ stop. Stops (order_end self.map.map.cells) false tx.old tx.new stop.why) }
         ensures tells { IfOk result (λ answer. Does L.holds (order_end self.map.map.cells) (TellsAbove self key answer)
             tx.old.attempts.caller tx.new.attempts.caller) }
+        ensures together { OnOk result (StoodTogether L.holds tx.new.attempts.caller) }
         ensures may { OnOk result ((map : List Val) × MayBegin L.holds tx.new.attempts.caller map) }
     {
         let next = self.map.next_above(tx, key)?;
@@ -176,6 +183,7 @@ impl OrderedSet {
         ensures stops { IfErr result (λ stop. Stops (order_end self.map.map.cells) false tx.old tx.new stop.why) }
         ensures tells { IfOk result (λ answer. Does L.holds (order_end self.map.map.cells) (TellsBelow self key answer)
             tx.old.attempts.caller tx.new.attempts.caller) }
+        ensures together { OnOk result (StoodTogether L.holds tx.new.attempts.caller) }
         ensures may { OnOk result ((map : List Val) × MayBegin L.holds tx.new.attempts.caller map) }
     {
         let before = self.map.next_below(tx, key)?;
@@ -188,6 +196,7 @@ impl OrderedSet {
         ensures stops { IfErr result (λ stop. Stops (order_end self.map.map.cells) tx.old.notes tx.old tx.new stop.why) }
         ensures pops { IfOk result (λ popped. Does L.holds (order_end self.map.map.cells) (Pops self popped)
             tx.old.attempts.caller tx.new.attempts.caller) }
+        ensures together { OnOk result (StoodTogether L.holds tx.new.attempts.caller) }
         ensures may { OnOk result ((map : List Val) × MayBegin L.holds tx.new.attempts.caller map) }
     {
         let popped = self.map.pop_first(tx)?;
@@ -200,6 +209,7 @@ impl OrderedSet {
         ensures stops { IfErr result (λ stop. Stops (order_end self.map.map.cells) tx.old.notes tx.old tx.new stop.why) }
         ensures pops { IfOk result (λ popped. Does L.holds (order_end self.map.map.cells) (PopsLast self popped)
             tx.old.attempts.caller tx.new.attempts.caller) }
+        ensures together { OnOk result (StoodTogether L.holds tx.new.attempts.caller) }
         ensures may { OnOk result ((map : List Val) × MayBegin L.holds tx.new.attempts.caller map) }
     {
         let popped = self.map.pop_last(tx)?;

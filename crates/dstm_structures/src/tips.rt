@@ -1,8 +1,9 @@
 // How keys are added to the order of a map, and taken out.
 ghost use Rattle.std.specs.Prelude.{◌≡◌, ◌≢◌, ◌+◌, ◌*◌, ◌/◌, ◌^◌, ◌<◌, ◌≤◌, List, false, if◌then◌else◌, nat_lt, IfErr, IfOk, IfSome, OnOk};
+ghost use Rattle.dstm_attempts.specs.Attempts.{StoodTogether};
 ghost use Rattle.dstm_cells.specs.UnderWay.{MayBegin};
 ghost use Rattle.dstm_model.specs.declared.value.Val.{Val};
-ghost use Rattle.dstm_structures.specs.Effects.{Does, GoesOn, StillMay, Stops};
+ghost use Rattle.dstm_structures.specs.Effects.{Does, GoesOn, StillMay, StillTogether, Stops};
 ghost use Rattle.dstm_structures.specs.Orders.{order_end};
 ghost use Rattle.dstm_structures.specs.Tips.{AddsBeside, AddsKey, AddsOver, AddsTip, DropsKey, DropsTip, FreesFork, LooksFork, SeeksFork, SetsFork, SetsRoot, SetsSide};
 
@@ -34,6 +35,7 @@ impl Order {
         ensures stops { IfErr result (λ stop. Stops (order_end self.cells) tx.old.notes tx.old tx.new stop.why) }
         ensures adds { OnOk result (Does L.holds (order_end self.cells) (AddsKey self.cells key at cell)
             tx.old.attempts.caller tx.new.attempts.caller) }
+        ensures together { OnOk result (StoodTogether L.holds tx.new.attempts.caller) }
         ensures may { OnOk result ((map : List Val) × MayBegin L.holds tx.new.attempts.caller map) }
     {
         let root = tx.get(self.root_at())?;
@@ -53,6 +55,7 @@ impl Order {
         ensures stops { IfErr result (λ stop. Stops (order_end self.cells) tx.old.notes tx.old tx.new stop.why) }
         ensures drops { OnOk result (Does L.holds (order_end self.cells) (DropsKey self.cells key at)
             tx.old.attempts.caller tx.new.attempts.caller) }
+        ensures together { OnOk result (StoodTogether L.holds tx.new.attempts.caller) }
         ensures may { OnOk result ((map : List Val) × MayBegin L.holds tx.new.attempts.caller map) }
     {
         let root = tx.get(self.root_at())?;
@@ -73,6 +76,7 @@ impl Order {
         ensures within { IfOk result (λ free. IfSome free (λ cell. cell < self.cells.capacity)) }
         ensures seeks { IfOk result (λ free. Does L.holds (order_end self.cells) (SeeksFork self.cells free)
             tx.old.attempts.caller tx.new.attempts.caller) }
+        ensures together { OnOk result (StillTogether L.holds tx.old.attempts.caller tx.new.attempts.caller) }
         ensures may { OnOk result (StillMay L.holds tx.old.attempts.caller tx.new.attempts.caller) }
     {
         for passed in 0..self.cells.capacity {
@@ -102,6 +106,7 @@ impl Order {
         ensures adds { IfOk result (λ now. Does L.holds (order_end self.cells)
             (AddsTip self.cells added.key added.at added.cell link under now)
             tx.old.attempts.caller tx.new.attempts.caller) }
+        ensures together { OnOk result (StillTogether L.holds tx.old.attempts.caller tx.new.attempts.caller) }
         ensures may { OnOk result (StillMay L.holds tx.old.attempts.caller tx.new.attempts.caller) }
     {
         match self.link(link) {
@@ -144,6 +149,7 @@ impl Order {
         ensures adds { IfOk result (λ now. Does L.holds (order_end self.cells)
             (AddsBeside self.cells added.key added.at added.cell place now)
             tx.old.attempts.caller tx.new.attempts.caller) }
+        ensures together { OnOk result (StoodTogether L.holds tx.new.attempts.caller) }
         ensures may { OnOk result ((map : List Val) × MayBegin L.holds tx.new.attempts.caller map) }
     {
         let slot = tx.get(self.cells.slot_at(place))?;
@@ -184,6 +190,7 @@ impl Order {
         ensures adds { IfOk result (λ now. Does L.holds (order_end self.cells)
             (AddsOver self.cells added.key added.at added.cell over fork now)
             tx.old.attempts.caller tx.new.attempts.caller) }
+        ensures together { OnOk result (StillTogether L.holds tx.old.attempts.caller tx.new.attempts.caller) }
         ensures may { OnOk result (StillMay L.holds tx.old.attempts.caller tx.new.attempts.caller) }
     {
         let ours = (added.key >> fork.level) / 2;
@@ -219,6 +226,7 @@ impl Order {
         ensures few { IfOk result (λ now. now < 268435456) }
         ensures drops { IfOk result (λ now. Does L.holds (order_end self.cells) (DropsTip self.cells key at link under now)
             tx.old.attempts.caller tx.new.attempts.caller) }
+        ensures together { OnOk result (StillTogether L.holds tx.old.attempts.caller tx.new.attempts.caller) }
         ensures may { OnOk result (StillMay L.holds tx.old.attempts.caller tx.new.attempts.caller) }
     {
         match self.link(link) {
@@ -264,6 +272,7 @@ impl Order {
         ensures right { IfOk result (λ fork. fork.right < 268435456) }
         ensures looks { IfOk result (λ fork. Does L.holds (order_end self.cells) (LooksFork self.cells cell fork)
             tx.old.attempts.caller tx.new.attempts.caller) }
+        ensures together { OnOk result (StoodTogether L.holds tx.new.attempts.caller) }
         ensures may { OnOk result ((map : List Val) × MayBegin L.holds tx.new.attempts.caller map) }
     {
         let held = tx.get(self.fork_at(cell))?;
@@ -285,6 +294,7 @@ impl Order {
         ensures stops { IfErr result (λ stop. Stops (order_end self.cells) tx.old.notes tx.old tx.new stop.why) }
         ensures sets { OnOk result (Does L.holds (order_end self.cells) (SetsFork self.cells cell fork)
             tx.old.attempts.caller tx.new.attempts.caller) }
+        ensures together { OnOk result (StoodTogether L.holds tx.new.attempts.caller) }
         ensures may { OnOk result ((map : List Val) × MayBegin L.holds tx.new.attempts.caller map) }
     {
         tx.set(self.fork_at(cell), held_of(fork))?;
@@ -310,6 +320,7 @@ impl Order {
         ensures sets { OnOk result (Does L.holds (order_end self.cells) (SetsSide self.cells cell fork greater link)
             tx.old.attempts.caller tx.new.attempts.caller) }
         ensures stays { (if greater then fork.right else fork.left) ≡ link → tx.new ≡ tx.old }
+        ensures together { OnOk result (StillTogether L.holds tx.old.attempts.caller tx.new.attempts.caller) }
         ensures may { OnOk result (StillMay L.holds tx.old.attempts.caller tx.new.attempts.caller) }
     {
         if fork.side(greater) == link {
@@ -331,6 +342,7 @@ impl Order {
         ensures sets { OnOk result (Does L.holds (order_end self.cells) (SetsRoot self.cells was now)
             tx.old.attempts.caller tx.new.attempts.caller) }
         ensures stays { was ≡ now → tx.new ≡ tx.old }
+        ensures together { OnOk result (StillTogether L.holds tx.old.attempts.caller tx.new.attempts.caller) }
         ensures may { OnOk result (StillMay L.holds tx.old.attempts.caller tx.new.attempts.caller) }
     {
         if was == now {
@@ -347,6 +359,7 @@ impl Order {
         ensures stops { IfErr result (λ stop. Stops (order_end self.cells) tx.old.notes tx.old tx.new stop.why) }
         ensures frees { OnOk result (Does L.holds (order_end self.cells) (FreesFork self.cells cell)
             tx.old.attempts.caller tx.new.attempts.caller) }
+        ensures together { OnOk result (StoodTogether L.holds tx.new.attempts.caller) }
         ensures may { OnOk result ((map : List Val) × MayBegin L.holds tx.new.attempts.caller map) }
     {
         tx.set(self.fork_at(cell), (0, 0))?;

@@ -1,5 +1,6 @@
 // Changes of what a map has for a key, in one look-up.
 ghost use Rattle.std.specs.Prelude.{◌≡◌, List, IfErr, IfOk, OnOk};
+ghost use Rattle.dstm_attempts.specs.Attempts.{StoodTogether};
 ghost use Rattle.dstm_cells.specs.UnderWay.{MayBegin};
 ghost use Rattle.dstm_model.specs.declared.value.Val.{Val};
 ghost use Rattle.dstm_structures.specs.Effects.{Does, GoesOn, Stops};
@@ -26,6 +27,7 @@ impl<V: Word> HashMap<V> {
         ensures stops { IfErr result (λ stop. Stops (end_of self) tx.old.notes tx.old tx.new stop.why) }
         ensures puts { IfOk result (λ placed. (value : V) × F.post f (had_by placed) value
             × Does L.holds (end_of self) (Puts V.found self key value placed) tx.old.attempts.caller tx.new.attempts.caller) }
+        ensures together { OnOk result (StoodTogether L.holds tx.new.attempts.caller) }
         ensures may { OnOk result ((map : List Val) × MayBegin L.holds tx.new.attempts.caller map) }
     {
         let found = self.find(tx, key)?;
@@ -54,6 +56,7 @@ impl<V: Word> OrderedMap<V> {
         ensures puts { IfOk result (λ placed. (value : V) × F.post f (had_by placed) value
             × Does L.holds (order_end self.map.cells) (ordered.Puts V.found self key value placed)
             tx.old.attempts.caller tx.new.attempts.caller) }
+        ensures together { OnOk result (StoodTogether L.holds tx.new.attempts.caller) }
         ensures may { OnOk result ((map : List Val) × MayBegin L.holds tx.new.attempts.caller map) }
     {
         let found = self.map.find(tx, key)?;

@@ -17,7 +17,7 @@ impl<V: Word> HashMap<V> {
         ensures stays { B.Stays by.old by.new }
         ensures fails { IfErr result (B.Fails false (end_of self) by.old by.new) }
         ensures tells { IfOk result (λ answer. Shows B.Stands (λ values. Tells V.found self key answer values values) by.new) }
-        ensures may { OnOk result (StandsSomewhere B.Stands by.new) }
+        ensures may { OnOk result (StandsSomewhere B.Stands B.Together by.new) }
     {
         let found = self.find_by(by, key)?;
         let Some(at) = found else {
@@ -33,7 +33,7 @@ impl<V: Word> HashMap<V> {
         ensures fails { IfErr result (B.Fails false (end_of self) by.old by.new) }
         ensures within { IfOk result (λ place. IfSome place (λ at. at < self.cells.capacity)) }
         ensures seeks { IfOk result (λ place. Shows B.Stands (λ values. Seeks self key place values values) by.new) }
-        ensures may { OnOk result (StandsSomewhere B.Stands by.new) }
+        ensures may { OnOk result (StandsSomewhere B.Stands B.Together by.new) }
     {
         let home = self.home(key);
         let first = by.look(self.cells.slot_at(home))?;
@@ -61,7 +61,7 @@ impl<V: Word> HashMap<V> {
         ensures fails { IfErr result (B.Fails false (end_of self) by.old by.new) }
         ensures most { IfOk result (λ reach. reach ≤ self.cells.capacity) }
         ensures reaches { IfOk result (λ reach. Shows B.Stands (λ values. Reaches self home reach values values) by.new) }
-        ensures may { OnOk result (StandsSomewhere B.Stands by.new) }
+        ensures may { OnOk result (StandsSomewhere B.Stands B.Together by.new) }
     {
         let slot = by.look(self.cells.slot_at(home))?;
         Ok(self.at_most(slot.reach))
@@ -87,7 +87,7 @@ impl<V: Word> HashMap<V> {
         ensures stays { B.Stays by.old by.new }
         ensures fails { IfErr result (B.Fails true (end_of self) by.old by.new) }
         ensures lists { IfOk result (λ items. Shows B.Stands (λ values. Lists V.found self items.items values values) by.new) }
-        ensures may { OnOk result (StandsSomewhere B.Stands by.new) }
+        ensures may { OnOk result (StandsSomewhere B.Stands B.Together by.new) }
     {
         let mut items = Vec::new(alloc);
         for at in 0..self.cells.capacity {
@@ -103,7 +103,7 @@ impl<V: Word> HashMap<V> {
         ensures fails { IfErr result (B.Fails true (end_of self) by.old by.new) }
         ensures lists { OnOk result (Shows B.Stands
             (λ values. ListsPlace V.found self at items.old.items items.new.items values values) by.new) }
-        ensures may { OnOk result (StandsSomewhere B.Stands by.new) }
+        ensures may { OnOk result (StandsSomewhere B.Stands B.Together by.new) }
     {
         let found = self.stands_by(by, at)?;
         let Some(key) = found else {
@@ -122,7 +122,7 @@ impl<V: Word> HashMap<V> {
         ensures stays { B.Stays by.old by.new }
         ensures fails { IfErr result (B.Fails false (end_of self) by.old by.new) }
         ensures stands { IfOk result (λ key. Shows B.Stands (λ values. Stands self at key values values) by.new) }
-        ensures may { OnOk result (StandsSomewhere B.Stands by.new) }
+        ensures may { OnOk result (StandsSomewhere B.Stands B.Together by.new) }
     {
         let slot = by.look(self.cells.slot_at(at))?;
         let Some(key) = slot.key else {

@@ -28,4 +28,4 @@ pub returns-clause-is : goal.returns-clause-is
 returns-clause-is g c = look-is c.get.new.self c.in_ok-value.ensures.gets
 
 pub returns-clause-may : goal.returns-clause-may
-returns-clause-may g c = (c.in_ok-value.ensures.may.0, _, (c.in_ok-value.ensures.may.1, refl))
+returns-clause-may g c = (c.in_ok-value.ensures.may.0, _, (c.in_ok-value.ensures.may.1, refl), c.in_ok-value.ensures.together)

@@ -13,6 +13,7 @@ loop-passed-init g c = (
       (λ before after size. clear-start c.args.self c.args.key c.home-home.result c.in_ok-reach.reach before after
       c.home-home.ensures.home),
   c.in_ok-reach.ensures.may,
+  c.in_ok-reach.ensures.together,
 )
 
 pub loop-passed-preserved : goal.loop-passed-preserved
@@ -24,6 +25,7 @@ loop-passed-preserved g c = (
       c.home-home.result c.behind.result before mid after c.home-home.ensures.home c.behind.ensures.behind
       c.behind.ensures.within),
   c.in_ok-empty.ensures.may,
+  c.in_ok-empty.ensures.together,
 )
 
 pub returns-clause-clears : goal.returns-clause-clears

@@ -7,3 +7,6 @@ returns-clause-seeks g c = does-shown (Seeks c.args.self c.args.key c.in_ok-plac
 
 pub returns-clause-may : goal.returns-clause-may
 returns-clause-may g c = (c.in_ok-place.ensures.may.0, c.in_ok-place.ensures.may.2.0)
+
+pub returns-clause-together : goal.returns-clause-together
+returns-clause-together g c = c.in_ok-place.ensures.may.3

@@ -7,4 +7,4 @@ abbrev pub invariant-loop-passed : goal.invariant-loop-passed
 invariant-loop-passed g l =
     g.B.Looks.Stays l.fn.by l.by
     × Shows g.B.Looks.Stands (λ values. Seeking l.self l.key l.reach l.passed values values) l.by
-    × StandsSomewhere g.B.Looks.Stands l.by
+    × StandsSomewhere g.B.Looks.Stands g.B.Looks.Together l.by

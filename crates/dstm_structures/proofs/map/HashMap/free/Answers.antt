@@ -9,6 +9,7 @@ loop-passed-init g c = (
   goes-still,
   does-still (λ values. pass-start c.args.self c.args.home c.args.reach values),
   λ m. m,
+  λ m. m,
 )
 
 pub returns-then-is_free-clause-frees : goal.returns-then-is_free-clause-frees
@@ -26,6 +27,7 @@ loop-passed-preserved g c = (
       c.behind-at.result c.slot_at.result.object c.in_ok-slot.slot.key _ before mid after c.behind-at.ensures.behind c.slot_at.ensures
       (grind arith) (p is) (reads-key reads) (sym c.is_free.ensures ∙ c.if-is_free.false)),
   λ m. c.in_ok-slot.ensures.may,
+  λ m. c.in_ok-slot.ensures.together,
 )
 
 pub returns-clause-frees : goal.returns-clause-frees

@@ -7,3 +7,6 @@ returns-clause-tells g c = does-shown (Tells g.V.Word.found c.args.self c.args.k
 
 pub returns-clause-may : goal.returns-clause-may
 returns-clause-may g c = (c.in_ok-answer.ensures.may.0, c.in_ok-answer.ensures.may.2.0)
+
+pub returns-clause-together : goal.returns-clause-together
+returns-clause-together g c = c.in_ok-answer.ensures.may.3

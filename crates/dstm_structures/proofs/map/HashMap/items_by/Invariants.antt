@@ -8,4 +8,4 @@ abbrev pub invariant-loop-at : goal.invariant-loop-at
 invariant-loop-at g l =
     g.B.Looks.Stays l.fn.by l.by
     × Shows g.B.Looks.Stands (λ values. Listing g.V.Word.found l.self l.at l.items.items values values) l.by
-    × (0 < l.at → StandsSomewhere g.B.Looks.Stands l.by)
+    × (0 < l.at → StandsSomewhere g.B.Looks.Stands g.B.Looks.Together l.by)

@@ -10,6 +10,7 @@ loop-at-init g c = (
   goes-still,
   does-still (λ values. count-start g.V.Word.found c.args.self values),
   λ some. absurd (omega (arith, some)),
+  λ some. absurd (omega (arith, some)),
 )
 
 pub loop-at-preserved : goal.loop-at-preserved
@@ -20,6 +21,7 @@ loop-at-preserved g c = (
       (λ before mid after size. count-next g.V.Word.found c.args.self c.loop-at.at c.loop-at.count c.one_if-count.result
       c.in_ok-key.key before mid after c.one_if-count.ensures.is),
   λ some. c.in_ok-key.ensures.may,
+  λ some. c.in_ok-key.ensures.together,
 )
 
 pub returns-clause-counts : goal.returns-clause-counts
@@ -30,3 +32,6 @@ returns-clause-counts g c =
 
 pub returns-clause-may : goal.returns-clause-may
 returns-clause-may g c = c.loop-at.invariant.3 (omega (arith, c.loop-at-test.false, c.args.self.cells.some))
+
+pub returns-clause-together : goal.returns-clause-together
+returns-clause-together g c = c.loop-at.invariant.4 (omega (arith, c.loop-at-test.false, c.args.self.cells.some))

@@ -7,3 +7,6 @@ returns-clause-reaches g c = does-shown (Reaches c.args.self c.args.home c.in_ok
 
 pub returns-clause-may : goal.returns-clause-may
 returns-clause-may g c = (c.in_ok-reach.ensures.may.0, c.in_ok-reach.ensures.may.2.0)
+
+pub returns-clause-together : goal.returns-clause-together
+returns-clause-together g c = c.in_ok-reach.ensures.may.3

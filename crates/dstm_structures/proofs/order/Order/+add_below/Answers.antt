@@ -2,7 +2,7 @@ use Rattle.std.proofs.Common.{ℕ, ◌/◌, ◌%◌, ◌^◌, ◌==◌, arith, r
 use Rattle.std.proofs.lemmas.Grind.{common_steps}
 use Rattle.dstm_structures.specs.Tips.{AddsTip}
 use Rattle.dstm_structures.proofs.Doing.{does-as, does-is, does-then, does-thrice}
-use Rattle.dstm_structures.proofs.Tipping.{adds_over, adds_side, adds_tip}
+use Rattle.dstm_structures.proofs.Tipping.{adds_high, adds_over, adds_side, adds_tip}
 use Rattle.dstm_structures.proofs.Effects.{goes-stay}
 use Rattle.dstm_structures.proofs.order.Order.+add_below.Goals as goal
 
@@ -13,6 +13,15 @@ returns-in_ok-now-in-Tip-clause-adds g t c =
     does-as c.in_ok-now-in-Tip.ensures.adds
     (λ before after size adds. adds_tip c.args.self.cells added.key added.at added.cell c.args.link c.args.under c.in-Tip.place
     now before after c.in-Tip.ensures.is adds)
+
+pub returns-then-fork-under-clause-adds : goal.returns-then-fork-under-clause-adds
+returns-then-fork-under-clause-adds g t c =
+    let added = c.args.added in
+    let fork = c.in_ok-fork-in-Fork.fork in
+    does-as c.in_ok-fork-in-Fork.ensures.looks
+    (λ before after size looks. adds_high c.args.self.cells added.key added.at added.cell c.args.link c.args.under
+    c.in-Fork.over fork before after after c.in-Fork.ensures.is looks c.to_fork.result
+    (omega (arith, c.if-fork-under.true)))
 
 pub returns-then-part-fork-clause-adds : goal.returns-then-part-fork-clause-adds
 returns-then-part-fork-clause-adds g t c =

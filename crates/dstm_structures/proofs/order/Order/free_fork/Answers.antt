@@ -9,6 +9,7 @@ loop-passed-init g c = (
   goes-still,
   does-still (λ values. forks_start c.args.self.cells c.args.home values),
   λ m. m,
+  λ m. m,
 )
 
 pub returns-then-held-eq0-clause-seeks : goal.returns-then-held-eq0-clause-seeks
@@ -26,6 +27,7 @@ loop-passed-preserved g c = (
       c.behind-cell.result c.fork_at.result.object c.in_ok-held.held before mid after
       c.behind-cell.ensures.behind c.fork_at.ensures p reads (λ e. c.if-held-eq0.false e)),
   λ m. c.in_ok-held.ensures.may,
+  λ m. c.in_ok-held.ensures.together,
 )
 
 pub returns-clause-seeks : goal.returns-clause-seeks
@@ -35,3 +37,6 @@ returns-clause-seeks g c =
 
 pub returns-then-held-eq0-clause-may : goal.returns-then-held-eq0-clause-may
 returns-then-held-eq0-clause-may g c m = c.in_ok-held.ensures.may
+
+pub returns-then-held-eq0-clause-together : goal.returns-then-held-eq0-clause-together
+returns-then-held-eq0-clause-together g c m = c.in_ok-held.ensures.together

@@ -14,6 +14,7 @@ loop-told-init g c = (
       (above-start g.V.Word.found c.args.self c.args.key values)),
   λ m. m,
   ap (length {A = ℕ × g.row.V.Denot}) c.new-items.ensures.items,
+  λ m. m,
 )
 
 pub loop-told-preserved : goal.loop-told-preserved
@@ -28,6 +29,7 @@ loop-told-preserved g c = (
   λ m. c.in_ok-above.ensures.may,
   ap (length {A = ℕ × g.row.V.Denot}) c.in_ok-push.ensures.items
       ∙ length_push c.loop-told.items.items c.in-Some.entry ∙ ap (λ (n : ℕ). n + 1) c.loop-told.invariant.3,
+  λ m. c.in_ok-above.ensures.together,
 )
 
 pub returns-in_default-clause-lists : goal.returns-in_default-clause-lists

@@ -1,5 +1,5 @@
 use Rattle.std.proofs.Common.{◌≡◌, length}
-use Rattle.dstm_structures.specs.Effects.{Does, GoesOn, StillMay}
+use Rattle.dstm_structures.specs.Effects.{Does, GoesOn, StillMay, StillTogether}
 use Rattle.dstm_structures.specs.Orders.{order_end}
 use Rattle.dstm_structures.proofs.Items.{WalkingAbove}
 use Rattle.dstm_structures.proofs.ordered.OrderedMap.list_above.Given as goal
@@ -12,3 +12,4 @@ invariant-loop-told g l =
     l.fn.tx.attempts.caller l.tx.attempts.caller
     × StillMay g.L.Law.holds l.fn.tx.attempts.caller l.tx.attempts.caller
     × (length l.items.items ≡ l._told)
+    × StillTogether g.L.Law.holds l.fn.tx.attempts.caller l.tx.attempts.caller

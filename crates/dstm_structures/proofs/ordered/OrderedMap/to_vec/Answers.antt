@@ -12,6 +12,7 @@ loop-next-init g c = (
       Walking g.V.Word.found c.args.self xs c.in_ok-next.next before after) (sym c.new-items.ensures.items)
       (walk-start g.V.Word.found c.args.self c.in_ok-next.next before after tells)),
   c.in_ok-next.ensures.may,
+  c.in_ok-next.ensures.together,
 )
 
 pub loop-next-preserved : goal.loop-next-preserved
@@ -23,6 +24,7 @@ loop-next-preserved g c = (
       (walk-next g.V.Word.found c.args.self c.loop-next.items.items c.in-Some.entry c.loop-next.next c.in_ok-above.above
       c.if_above-next.result before mid after c.in-Some.is c.if_above-next.ensures walking tells)),
   c.in_ok-above.ensures.may,
+  c.in_ok-above.ensures.together,
 )
 
 pub returns-clause-lists : goal.returns-clause-lists
@@ -33,3 +35,6 @@ returns-clause-lists g c =
 
 pub returns-clause-may : goal.returns-clause-may
 returns-clause-may g c = c.loop-next.invariant.2
+
+pub returns-clause-together : goal.returns-clause-together
+returns-clause-together g c = c.loop-next.invariant.3

@@ -10,6 +10,7 @@ loop-passed-init g c = (
   does-still (λ values. pass-start c.args.self c.args.start values),
   refl,
   λ some. absurd (omega (arith, some)),
+  λ some. absurd (omega (arith, some)),
 )
 
 pub loop-passed-preserved : goal.loop-passed-preserved
@@ -23,6 +24,7 @@ loop-passed-preserved g c = (
       (omega (arith, c.loop-passed-test.true)) c.behind-at.ensures.behind c.mark_at.ensures c.loop-passed.invariant.2
       c.in_ok-mark.ensures.once,
   λ some. c.in_ok-mark.ensures.may,
+  λ some. c.in_ok-mark.ensures.together,
 )
 
 pub returns-then-not-mark-clause-seeks : goal.returns-then-not-mark-clause-seeks
@@ -51,3 +53,6 @@ returns-clause-opens g c =
 
 pub returns-clause-may : goal.returns-clause-may
 returns-clause-may g c = c.loop-passed.invariant.3 (omega (arith, c.loop-passed-test.false, c.requires))
+
+pub returns-clause-together : goal.returns-clause-together
+returns-clause-together g c = c.loop-passed.invariant.4 (omega (arith, c.loop-passed-test.false, c.requires))

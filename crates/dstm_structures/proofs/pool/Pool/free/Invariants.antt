@@ -1,5 +1,6 @@
 use Rattle.std.proofs.Common.{◌<◌, List}
 use Rattle.dstm_model.specs.declared.value.Val.{Val}
+use Rattle.dstm_attempts.specs.Attempts.{StoodTogether}
 use Rattle.dstm_cells.specs.UnderWay.{MayBegin}
 use Rattle.dstm_structures.specs.Effects.{Does, GoesOn, OpensEach}
 use Rattle.dstm_structures.specs.Pools.{end_of, marks_from}
@@ -13,3 +14,4 @@ invariant-loop-passed g l =
     × Does g.L.Law.holds (end_of l.self) (Passing l.self l.start l.passed) l.fn.tx.attempts.caller l.tx.attempts.caller
     × OpensEach g.L.Law.holds (marks_from l.self l.start l.passed) l.fn.tx.attempts.caller l.tx.attempts.caller
     × (0 < l.passed → (map : List Val) × MayBegin g.L.Law.holds l.tx.attempts.caller map)
+    × (0 < l.passed → StoodTogether g.L.Law.holds l.tx.attempts.caller)
