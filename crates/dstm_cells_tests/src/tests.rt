@@ -1,6 +1,7 @@
 //! The tests; only a build with tests has them.
 mod cells;
 mod maps;
+mod names;
 mod naps;
 mod plain;
 mod pools;
