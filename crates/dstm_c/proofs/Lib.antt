@@ -1,1 +1,3 @@
+mod Calling
+mod Making
 mod Opening

@@ -19,10 +19,10 @@ use std::alloc::Global;
 use std::mem;
 
 // What `dstmc_version` answers: 10,000 for each version, 100 for each addition to it, and 1 for each mending.
-const VERSION: u32 = 10_100;
+const VERSION: u32 = 10_200;
 
 // The number of a code.
-fn number(code: Code) -> u32
+pub(crate) fn number(code: Code) -> u32
     ensures done { code ≡ Done → result ≡ 0 }
     ensures other { code ≢ Done → result ≢ 0 }
     ensures is { result ≡ number_of code }
@@ -59,7 +59,7 @@ fn engine_of(number: u32) -> Option<Engine>
 
 // Takes what a handle stands for out of it, which is closed then.
 #[inline]
-fn take(alloc: Global, handle: &mut Handle) -> Option<Box<Held>>
+pub(crate) fn take(alloc: Global, handle: &mut Handle) -> Option<Box<Held>>
     ensures held { MatchOption result (handle.old.held ≡ None) (λ held. handle.old.held ≡ Some held.value) }
     ensures closed { handle.new.held ≡ None }
 {
@@ -121,7 +121,7 @@ fn part_of(alloc: Global, memory: &mut Held) -> Result<Box<Held>, Code>
 /// Which version the library is.
 #[unsafe(no_mangle)]
 pub extern "C" fn dstmc_version() -> u32
-    ensures { result ≡ 10100 }
+    ensures { result ≡ 10200 }
 {
     VERSION
 }

@@ -1,0 +1,22 @@
+use Rattle.std.proofs.Common.{rules}
+use Rattle.dstm_model.specs.contracts.value.AnyLawLaw.TheImpl as TheLaw
+use Rattle.dstm_structures.specs.Pools.{OpensToGive}
+use Rattle.dstm_c.proofs.Calling.{sets_at, names, names_none, opens_at, within_opens}
+use Rattle.dstm_c.proofs.pools.dstmc_pool_give.Goals as goal
+
+pub returns-in_default : goal.returns-in_default
+returns-in_default c = names_none _ _ _ _ _ _ _ c.in_default.ensures c.number.ensures.is
+
+pub returns : goal.returns
+returns c =
+    let holds = (TheLaw.holds-value).it in
+    let pool = c.in-Some.pool in
+    names _ _ _ _ _ _ _ pool _ _ _ _ _ _ c.in-Some.ensures c.on-answer.ensures
+    (λ t u called. within_opens holds _ _ _ (OpensToGive pool holds) _ _ t u _
+    (λ told call. (
+      sets_at holds _ _ _ _ (λ p q told post. record { goes = search rules; stops = search rules; does = search rules; together = search rules; may = search rules })
+          t.tx u.tx told call,
+      opens_at holds _ _ (OpensToGive pool holds) (λ p q told post. search rules) t.tx u.tx told call,
+    ))
+    called)
+    c.tell_if.ensures
