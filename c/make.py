@@ -31,7 +31,7 @@ HERE = os.path.dirname(os.path.realpath(__file__))
 ROOT = os.path.dirname(HERE)
 OUT = f"{HERE}/out"
 HEADER = f"{HERE}/include/dstm.h"
-EXPORTS = f"{ROOT}/crates/dstm_c/src/exports.rt"
+EXPORTS = f"{ROOT}/crates/dstm_c/src"
 TESTS = ("first", "counter", "bank", "queue", "pool", "alternatives", "parts", "turn", "misuse", "refused")
 # By which engines a test runs where it takes long; where none is named it runs by all of them.
 BOTH = ("tl2", "polka")
@@ -254,8 +254,10 @@ def declared():
 def exported():
     """Returns the same of each call that the crate exports, as C passes them: an allocator it does not."""
     c = {"u32": "uint32_t", "u64": "uint64_t", "&mut u32": "uint32_t *", "&mut u64": "uint64_t *"}
-    with open(EXPORTS, encoding="utf-8") as it:
-        found = re.findall(r'#\[unsafe\(no_mangle\)\]\s*pub extern "C" fn (\w+)\(([^)]*)\) -> u32', it.read())
+    found = []
+    for file in sorted(os.listdir(EXPORTS)):
+        with open(f"{EXPORTS}/{file}", encoding="utf-8") as it:
+            found += re.findall(r'#\[unsafe\(no_mangle\)\]\s*pub extern "C" fn (\w+)\(([^)]*)\) -> u32', it.read())
     made = {}
     for name, said in found:
         args = [[word.strip() for word in arg.split(":")] for arg in said.split(",") if arg.strip()]

@@ -42,7 +42,7 @@ extern "C" {
 #endif
 
 /* The version of this header: 10,000 for each version, 100 for each addition to it, 1 for each mending. */
-#define DSTM_VERSION 10100
+#define DSTM_VERSION 10200
 
 typedef enum dstm_code {
     DSTM_OK = 0,
@@ -94,6 +94,14 @@ uint32_t dstmc_abort(dstm_thread *thread);
 uint32_t dstmc_look(dstm_thread *thread);
 uint32_t dstmc_mark(dstm_thread *thread, uint64_t *mark);
 uint32_t dstmc_undo_to(dstm_thread *thread, uint64_t mark);
+uint32_t dstmc_queue_new(dstm_memory *memory, uint32_t capacity, uint32_t *first);
+uint32_t dstmc_queue_try_push(dstm_thread *thread, uint32_t first, uint32_t capacity, uint64_t low, uint64_t high,
+                              uint32_t *pushed);
+uint32_t dstmc_queue_try_pop(dstm_thread *thread, uint32_t first, uint32_t capacity, uint32_t *there, uint64_t *low,
+                             uint64_t *high);
+uint32_t dstmc_queue_front(dstm_thread *thread, uint32_t first, uint32_t capacity, uint32_t *there, uint64_t *low,
+                           uint64_t *high);
+uint32_t dstmc_queue_len(dstm_thread *thread, uint32_t first, uint32_t capacity, uint32_t *len);
 
 #define DSTM_CALL(test, call) ((test) ? (dstm_code)(call) : DSTM_NULL)
 
@@ -274,62 +282,69 @@ static inline dstm_code dstm_atomically(dstm_thread *me, dstm_body body, void *w
     return dstm_atomically_for(me, 1048576, body, with);
 }
 
-/* STRUCTURES, made of cells. A call on one is a part of the transaction under way, and copies of its name name
-   the same one. The program sets none of their cells by itself. */
+/* STRUCTURES, made of cells. A program names one by the number of its first cell and by how much it has room for, as
+   the call that made it has told it: copies of that name name the same one, and threads share it as they share a number.
 
-/* A queue of pairs of words: the first one in is the first one out. */
-typedef struct dstm_queue { dstm_cell ends; uint32_t capacity; } dstm_queue;
+   A call on one is a part of the transaction under way, as dstm_get and dstm_set are. Besides what it says it answers
+   AGAIN, IDLE and CLOSED as these do; RANGE, for a name that no memory has room for; FOREIGN, where it comes upon a cell
+   that this memory has not; and MEMORY, behind a dstm_mark alone, where it sets something, of which a part may be set then.
+   Where it answers a code that is not OK nothing is written to what its pointers lead to.
 
-/* A new queue, which has room for so many, at least 1. It takes as many cells and one more; where one of them is not
-   made, those before it stay. RANGE, and what dstm_cell_new answers. */
+   The program sets none of their cells by itself, and takes no name but one that was told: nothing checks that, and what
+   a structure holds is lost else. A call that makes one is as dstm_cell_new is: no thread has a part then. It makes all
+   of its cells, or none. RANGE, where it is to have room for none, or for more than a memory has room for; BUSY, FULL,
+   MEMORY, SPENT, CLOSED. */
+
+/* A queue of pairs of words: the first one in is the first one out. A call on it reads the cell that says where its ends
+   are, and sets it where it puts one in or takes one out: so two such transactions stand in one another's way. */
+typedef struct dstm_queue { dstm_cell first; uint32_t capacity; } dstm_queue;
+
+/* A new queue, which has room for so many, in as many cells and one more. */
 static inline dstm_code dstm_queue_new(dstm_memory *memory, uint32_t capacity, dstm_queue *queue) {
-    dstm_queue made = {0, 0};
-    dstm_cell place = 0;
-    dstm_code code;
-    if (!queue) return DSTM_NULL;
-    if (!capacity) return DSTM_RANGE;
-    code = dstm_cell_new(memory, 0, 0, &made.ends); /* how many were taken out, and how many were put in */
-    for (; !code && made.capacity < capacity; made.capacity++) code = dstm_cell_new(memory, 0, 0, &place);
+    dstm_queue made = {0, capacity};
+    dstm_code code = DSTM_CALL(memory && queue, dstmc_queue_new(memory, capacity, &made.first));
     if (!code) *queue = made;
     return code;
 }
-static inline dstm_cell dstm_queue_place(dstm_queue queue, uint64_t n) {
-    return queue.ends + 1 + (uint32_t)(queue.capacity ? n % queue.capacity : 0);
-}
 /* How many it has. */
 static inline dstm_code dstm_queue_len(dstm_thread *me, dstm_queue queue, uint64_t *length) {
-    uint64_t out = 0, in = 0;
-    dstm_code code = length ? dstm_get(me, queue.ends, &out, &in) : DSTM_NULL;
-    if (!code) *length = in - out;
+    uint32_t count = 0;
+    dstm_code code = DSTM_CALL(me && length, dstmc_queue_len(me, queue.first, queue.capacity, &count));
+    if (!code) *length = count;
     return code;
+}
+/* Puts one at the end, where there is room: pushed is 1 then. It is 0 where it is full: nothing is set then. */
+static inline dstm_code dstm_queue_try_push(dstm_thread *me, dstm_queue queue, uint64_t low, uint64_t high,
+                                            uint32_t *pushed) {
+    return DSTM_CALL(me && pushed, dstmc_queue_try_push(me, queue.first, queue.capacity, low, high, pushed));
 }
 /* Puts one at the end. RETRY, where it is full: nothing is set then. */
 static inline dstm_code dstm_queue_push(dstm_thread *me, dstm_queue queue, uint64_t low, uint64_t high) {
-    uint64_t out = 0, in = 0;
-    dstm_code code = dstm_get(me, queue.ends, &out, &in);
-    if (code) return code;
-    if (in - out >= queue.capacity) return DSTM_RETRY;
-    code = dstm_set(me, dstm_queue_place(queue, in), low, high);
-    return code ? code : dstm_set(me, queue.ends, out, in + 1);
+    uint32_t pushed = 0;
+    dstm_code code = dstm_queue_try_push(me, queue, low, high, &pushed);
+    return code || pushed ? code : DSTM_RETRY;
 }
 static inline dstm_code dstm_queue_push_u64(dstm_thread *me, dstm_queue queue, uint64_t low) {
     return dstm_queue_push(me, queue, low, 0);
 }
 /* Tells the first one. RETRY, where it is empty. */
 static inline dstm_code dstm_queue_front(dstm_thread *me, dstm_queue queue, uint64_t *low, uint64_t *high) {
-    uint64_t out = 0, in = 0;
-    dstm_code code = dstm_get(me, queue.ends, &out, &in);
-    if (code) return code;
-    return in == out ? DSTM_RETRY : dstm_get(me, dstm_queue_place(queue, out), low, high);
+    uint32_t there = 0;
+    dstm_code code = DSTM_CALL(me && low && high && low != high,
+                               dstmc_queue_front(me, queue.first, queue.capacity, &there, low, high));
+    return code || there ? code : DSTM_RETRY;
+}
+/* Takes the first one, if there is one: there is 1 then. It is 0 where it is empty: nothing is set then. */
+static inline dstm_code dstm_queue_try_pop(dstm_thread *me, dstm_queue queue, uint32_t *there, uint64_t *low,
+                                           uint64_t *high) {
+    return DSTM_CALL(me && there && low && high && low != high,
+                     dstmc_queue_try_pop(me, queue.first, queue.capacity, there, low, high));
 }
 /* Takes the first one. RETRY, where it is empty: nothing is set then. */
 static inline dstm_code dstm_queue_pop(dstm_thread *me, dstm_queue queue, uint64_t *low, uint64_t *high) {
-    uint64_t out = 0, in = 0;
-    dstm_code code = dstm_get(me, queue.ends, &out, &in);
-    if (code) return code;
-    if (in == out) return DSTM_RETRY;
-    code = dstm_get(me, dstm_queue_place(queue, out), low, high);
-    return code ? code : dstm_set(me, queue.ends, out + 1, in);
+    uint32_t there = 0;
+    dstm_code code = dstm_queue_try_pop(me, queue, &there, low, high);
+    return code || there ? code : DSTM_RETRY;
 }
 static inline dstm_code dstm_queue_pop_u64(dstm_thread *me, dstm_queue queue, uint64_t *low) {
     uint64_t high = 0;

@@ -151,7 +151,8 @@ pub enum Error {
     Full,
     /// There is not enough memory.
     Memory,
-    /// A number is out of its range: there have to be from 1 to 63 threads, and at least 1 place in a queue or a pool.
+    /// A number is out of its range: there have to be from 1 to 63 threads, and a structure has to have room for 1 at least, and for
+    /// no more than a memory can have cells.
     Range,
     /// The closure retried, and nothing that it has read has changed for long.
     Idle,

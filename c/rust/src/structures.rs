@@ -1,7 +1,63 @@
 //! What is made of cells.
-use crate::{Cell, Error, Memory, Stop, Tx, Word};
+mod queue;
+
+pub use queue::Queue;
+
+use crate::{done, Cell, Error, Handle, Memory, Stop, Tx, Word};
 use core::fmt::{Debug, Formatter};
 use core::marker::PhantomData;
+
+// A structure of a memory: the first of its cells, and how much it has room for.
+#[derive(Clone, Copy, Debug)]
+struct Name {
+    memory: u64,
+    first: u32,
+    room: u32,
+}
+
+// What makes one, of so much room, and tells its first cell.
+type Make = unsafe extern "C" fn(&mut Handle, u32, &mut u32) -> u32;
+
+impl Name {
+    fn new(memory: &mut Memory, room: u32, make: Make) -> Result<Name, Error> {
+        let mut first = 0;
+        done(unsafe { make(&mut memory.handle.lock(), room, &mut first) })?;
+        Ok(Name {
+            memory: memory.id,
+            first,
+            room,
+        })
+    }
+
+    // The part by which a transaction makes a call on it.
+    fn by<'t>(self, tx: &'t mut Tx<'_, '_>) -> Result<&'t mut Handle, Stop> {
+        if self.memory == tx.thread.memory.id {
+            Ok(&mut tx.thread.handle)
+        } else {
+            Err(Stop::Failed(Error::Foreign))
+        }
+    }
+}
+
+// A structure that holds values of a type is a name, as a cell is one.
+macro_rules! named {
+    ($kind:ident) => {
+        impl<T> Clone for $kind<T> {
+            fn clone(&self) -> Self {
+                *self
+            }
+        }
+
+        impl<T> Copy for $kind<T> {}
+
+        impl<T> core::fmt::Debug for $kind<T> {
+            fn fmt(&self, f: &mut core::fmt::Formatter<'_>) -> core::fmt::Result {
+                write!(f, "{}({}, {})", stringify!($kind), self.name.memory, self.name.first)
+            }
+        }
+    };
+}
+use named;
 
 // Cells of a memory, one behind the other.
 #[derive(Clone, Copy, Debug)]
@@ -44,106 +100,6 @@ impl Cells {
     // The one behind so many, in a circle.
     fn at<T>(self, n: u64) -> Cell<T> {
         self.cell(self.first + 1 + (n % u64::from(self.count)) as u32)
-    }
-}
-
-/// A queue of at most so many values, first in, first out, in the cells of a memory: a name, copies of which name the same
-/// queue. A call on it is a part of a transaction.
-///
-/// ```
-/// let mut memory = dstm::Memory::new(2)?;
-/// let queue = memory.queue::<u64>(8)?;
-/// let (mut producer, mut consumer) = (memory.thread()?, memory.thread()?);
-/// std::thread::scope(|scope| {
-///     scope.spawn(move || {
-///         for n in 0..100 {
-///             producer.atomically(|tx| queue.push(tx, n)).unwrap(); // waits where it is full
-///         }
-///     });
-///     for n in 0..100 {
-///         assert_eq!(consumer.atomically(|tx| queue.pop(tx)), Ok(n));
-///     }
-/// });
-/// # Ok::<(), dstm::Error>(())
-/// ```
-pub struct Queue<T> {
-    cells: Cells,
-    holds: PhantomData<fn() -> T>,
-}
-
-impl<T> Clone for Queue<T> {
-    fn clone(&self) -> Self {
-        *self
-    }
-}
-
-impl<T> Copy for Queue<T> {}
-
-impl<T> Debug for Queue<T> {
-    fn fmt(&self, f: &mut Formatter<'_>) -> core::fmt::Result {
-        write!(f, "Queue({}, {})", self.cells.memory, self.cells.first)
-    }
-}
-
-impl<T: Word> Queue<T> {
-    /// How many values it has room for.
-    pub fn capacity(self) -> u32 {
-        self.cells.count
-    }
-
-    // How many were taken out, and how many were put in.
-    fn ends(self, tx: &mut Tx<'_, '_>) -> Result<(u64, u64), Stop> {
-        tx.get(self.cells.head())
-    }
-
-    /// How many values it has.
-    pub fn len(self, tx: &mut Tx<'_, '_>) -> Result<u64, Stop> {
-        let (out, put) = self.ends(tx)?;
-        Ok(put - out)
-    }
-
-    /// Puts a value at the end, and tells whether there was room.
-    pub fn try_push(self, tx: &mut Tx<'_, '_>, value: T) -> Result<bool, Stop> {
-        let (out, put) = self.ends(tx)?;
-        let room = put - out < u64::from(self.cells.count);
-        if room {
-            tx.set(self.cells.at(put), value)?;
-            tx.set(self.cells.head(), (out, put + 1))?;
-        }
-        Ok(room)
-    }
-
-    /// Puts a value at the end, once there is room.
-    pub fn push(self, tx: &mut Tx<'_, '_>, value: T) -> Result<(), Stop> {
-        let room = self.try_push(tx, value)?;
-        tx.ensure(room)
-    }
-
-    /// The first value, if there is one.
-    pub fn front(self, tx: &mut Tx<'_, '_>) -> Result<Option<T>, Stop> {
-        let (out, put) = self.ends(tx)?;
-        if out == put {
-            return Ok(None);
-        }
-        tx.get(self.cells.at(out)).map(Some)
-    }
-
-    /// Takes the first value, if there is one.
-    pub fn try_pop(self, tx: &mut Tx<'_, '_>) -> Result<Option<T>, Stop> {
-        let first = self.front(tx)?;
-        if first.is_some() {
-            let (out, put) = self.ends(tx)?;
-            tx.set(self.cells.head(), (out + 1, put))?;
-        }
-        Ok(first)
-    }
-
-    /// Takes the first value, once there is one.
-    pub fn pop(self, tx: &mut Tx<'_, '_>) -> Result<T, Stop> {
-        match self.try_pop(tx)? {
-            Some(value) => Ok(value),
-            None => tx.retry(),
-        }
     }
 }
 
@@ -221,16 +177,6 @@ impl<T: Word> Pool<T> {
 }
 
 impl Memory {
-    /// A new queue, which has room for so many values, at least 1. It takes as many cells, and one more; where one of them
-    /// is not made, those before it stay.
-    pub fn queue<T: Word>(&mut self, capacity: u32) -> Result<Queue<T>, Error> {
-        let cells = Cells::new(self, capacity)?;
-        Ok(Queue {
-            cells,
-            holds: PhantomData,
-        })
-    }
-
     /// A new pool of so many cells, at least 1. It takes one more; where one of them is not made, those before it stay.
     pub fn pool<T: Word>(&mut self, cells: u32) -> Result<Pool<T>, Error> {
         let cells = Cells::new(self, cells)?;
