@@ -102,6 +102,10 @@ uint32_t dstmc_queue_try_pop(dstm_thread *thread, uint32_t first, uint32_t capac
 uint32_t dstmc_queue_front(dstm_thread *thread, uint32_t first, uint32_t capacity, uint32_t *there, uint64_t *low,
                            uint64_t *high);
 uint32_t dstmc_queue_len(dstm_thread *thread, uint32_t first, uint32_t capacity, uint32_t *len);
+uint32_t dstmc_pool_new(dstm_memory *memory, uint32_t cells, uint32_t *first);
+uint32_t dstmc_pool_take(dstm_thread *thread, uint32_t first, uint32_t cells, uint64_t from, uint64_t low, uint64_t high,
+                         uint32_t *there, uint32_t *cell);
+uint32_t dstmc_pool_give(dstm_thread *thread, uint32_t first, uint32_t cells, uint32_t cell, uint32_t *given);
 
 #define DSTM_CALL(test, call) ((test) ? (dstm_code)(call) : DSTM_NULL)
 
@@ -351,47 +355,36 @@ static inline dstm_code dstm_queue_pop_u64(dstm_thread *me, dstm_queue queue, ui
     return dstm_queue_pop(me, queue, low, &high);
 }
 
-/* A pool of cells, out of which transactions take new cells while threads have parts, and give them back. */
+/* A pool of cells, out of which transactions take new cells while threads have parts, and give them back. Beside each cell
+   stands a mark, which tells whether it is taken. */
 typedef struct dstm_pool { dstm_cell first; uint32_t cells; } dstm_pool;
 
-/* A new pool of so many cells, at least 1. It takes one more; where one of them is not made, those before it stay.
-   RANGE, and what dstm_cell_new answers. */
+/* A new pool of so many cells, none of which is taken, in twice as many new cells. */
 static inline dstm_code dstm_pool_new(dstm_memory *memory, uint32_t cells, dstm_pool *pool) {
-    dstm_pool made = {0, 0};
-    dstm_cell cell = 0;
-    dstm_code code;
-    if (!pool) return DSTM_NULL;
-    if (!cells) return DSTM_RANGE;
-    /* the last one that was given back, each of which names the one before; and how many were ever taken */
-    code = dstm_cell_new(memory, 0, 0, &made.first);
-    for (; !code && made.cells < cells; made.cells++) code = dstm_cell_new(memory, 0, 0, &cell);
+    dstm_pool made = {0, cells};
+    dstm_code code = DSTM_CALL(memory && pool, dstmc_pool_new(memory, cells, &made.first));
     if (!code) *pool = made;
     return code;
 }
-/* Takes a cell, which holds this. It is taken where the transaction takes effect. RETRY, where all are taken: nothing
-   is set then. */
-static inline dstm_code dstm_pool_take(dstm_thread *me, dstm_pool pool, uint64_t low, uint64_t high, dstm_cell *cell) {
-    uint64_t back = 0, taken = 0, before = 0, none = 0;
-    dstm_cell found;
-    dstm_code code = cell ? dstm_get(me, pool.first, &back, &taken) : DSTM_NULL;
-    if (code) return code;
-    if (!back && taken >= pool.cells) return DSTM_RETRY;
-    found = pool.first + (uint32_t)(back ? back : taken + 1);
-    if (back) code = dstm_get(me, found, &before, &none);
-    if (!code) code = dstm_set(me, pool.first, before, back ? taken : taken + 1);
-    if (!code) code = dstm_set(me, found, low, high);
-    if (!code) *cell = found;
-    return code;
+/* Takes a cell, which holds this: the first one that is not taken, from place from % cells on, in a circle. It is taken
+   where the transaction takes effect. It reads the mark of each one that it passes, so that threads that begin at places
+   far from one another seldom meet. RETRY, where all are taken: nothing is set then. */
+static inline dstm_code dstm_pool_take_from(dstm_thread *me, dstm_pool pool, uint64_t from, uint64_t low, uint64_t high,
+                                            dstm_cell *cell) {
+    uint32_t there = 0;
+    dstm_code code = DSTM_CALL(me && cell, dstmc_pool_take(me, pool.first, pool.cells, from, low, high, &there, cell));
+    return code || there ? code : DSTM_RETRY;
 }
-/* Gives a cell back, which was taken out of this pool and not given back since: that nothing checks. FOREIGN, where the
-   pool has no such cell. */
+/* The same from a place on that is computed from the part and from what the cell is to hold. */
+static inline dstm_code dstm_pool_take(dstm_thread *me, dstm_pool pool, uint64_t low, uint64_t high, dstm_cell *cell) {
+    uint64_t mixed = ((uint64_t)(uintptr_t)me + 31 * low + high) * 11400714819323198485u;
+    return dstm_pool_take_from(me, pool, mixed >> 32, low, high, cell);
+}
+/* Gives a cell back. FOREIGN, where it is none of the pool's, or was not taken: nothing is set then. */
 static inline dstm_code dstm_pool_give(dstm_thread *me, dstm_pool pool, dstm_cell cell) {
-    uint64_t back = 0, taken = 0;
-    dstm_code code = dstm_get(me, pool.first, &back, &taken);
-    if (code) return code;
-    if (cell <= pool.first || cell - pool.first > pool.cells) return DSTM_FOREIGN;
-    code = dstm_set(me, cell, back, 0);
-    return code ? code : dstm_set(me, pool.first, cell - pool.first, taken);
+    uint32_t given = 0;
+    dstm_code code = DSTM_CALL(me, dstmc_pool_give(me, pool.first, pool.cells, cell, &given));
+    return code || given ? code : DSTM_FOREIGN;
 }
 
 #ifdef __cplusplus

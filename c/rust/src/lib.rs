@@ -145,14 +145,14 @@ const MOST_DOUBLINGS: u32 = 6;
 pub enum Error {
     /// By DSTM: the attempts of the part are used up, and there is no other part to take.
     Spent,
-    /// The cell is one of another memory.
+    /// The cell, or the structure, is one of another memory; or a cell is given back to a pool out of which it was not taken.
     Foreign,
     /// The memory has as many cells, or as many parts, as it can have.
     Full,
     /// There is not enough memory.
     Memory,
-    /// A number is out of its range: there have to be from 1 to 63 threads, and a structure has to have room for 1 at least, and for
-    /// no more than a memory can have cells.
+    /// A number is out of its range: there have to be from 1 to 63 threads, and a structure has to have room for 1 at least,
+    /// and for no more than a memory has room for.
     Range,
     /// The closure retried, and nothing that it has read has changed for long.
     Idle,
@@ -401,6 +401,7 @@ impl Memory {
         done(unsafe { dstmc_thread_new(&mut self.handle.lock(), &mut handle) })?;
         Ok(Thread {
             memory: self,
+            seed: handle.at as u64,
             handle,
             alone: PhantomData,
         })
@@ -417,6 +418,7 @@ impl Drop for Memory {
 pub struct Thread<'m> {
     memory: &'m Memory,
     handle: Handle,
+    seed: u64,
     alone: PhantomData<Plain<()>>,
 }
 
@@ -479,6 +481,12 @@ impl<'m> Thread<'m> {
             code = unsafe { dstmc_begin(&mut self.handle) };
         }
         done(code)
+    }
+
+    // A number that looks as if it came by chance.
+    fn chance(&mut self) -> u64 {
+        self.seed = self.seed.wrapping_mul(6_364_136_223_846_793_005).wrapping_add(1_442_695_040_888_963_407);
+        self.seed >> 33
     }
 
     // Takes another part in the place of one that is spent.

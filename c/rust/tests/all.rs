@@ -281,6 +281,7 @@ fn no_cell_of_a_pool_is_in_two_places_or_lost() {
                 assert_eq!(me.atomically(|tx| tx.get(*cell)), Ok((n, n + 1)));
                 me.atomically(|tx| pool.give(tx, *cell)).unwrap();
             }
+            assert_eq!(me.atomically(|tx| pool.give(tx, cell)), Err(Error::Foreign));
         }
         let (cells, slots) = (&cells[..], &slots[..]);
         scope(|s| {
