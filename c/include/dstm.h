@@ -106,6 +106,15 @@ uint32_t dstmc_pool_new(dstm_memory *memory, uint32_t cells, uint32_t *first);
 uint32_t dstmc_pool_take(dstm_thread *thread, uint32_t first, uint32_t cells, uint64_t from, uint64_t low, uint64_t high,
                          uint32_t *there, uint32_t *cell);
 uint32_t dstmc_pool_give(dstm_thread *thread, uint32_t first, uint32_t cells, uint32_t cell, uint32_t *given);
+uint32_t dstmc_map_new(dstm_memory *memory, uint32_t capacity, uint32_t *first);
+uint32_t dstmc_map_get(dstm_thread *thread, uint32_t first, uint32_t capacity, uint64_t key, uint32_t *there,
+                       uint64_t *low, uint64_t *high);
+uint32_t dstmc_map_contains(dstm_thread *thread, uint32_t first, uint32_t capacity, uint64_t key, uint32_t *there);
+uint32_t dstmc_map_put(dstm_thread *thread, uint32_t first, uint32_t capacity, uint64_t key, uint64_t low, uint64_t high,
+                       uint32_t *placed, uint64_t *had_low, uint64_t *had_high);
+uint32_t dstmc_map_remove(dstm_thread *thread, uint32_t first, uint32_t capacity, uint64_t key, uint32_t *there,
+                          uint64_t *low, uint64_t *high);
+uint32_t dstmc_map_len(dstm_thread *thread, uint32_t first, uint32_t capacity, uint32_t *len);
 
 #define DSTM_CALL(test, call) ((test) ? (dstm_code)(call) : DSTM_NULL)
 
@@ -385,6 +394,71 @@ static inline dstm_code dstm_pool_give(dstm_thread *me, dstm_pool pool, dstm_cel
     uint32_t given = 0;
     dstm_code code = DSTM_CALL(me, dstmc_pool_give(me, pool.first, pool.cells, cell, &given));
     return code || given ? code : DSTM_FOREIGN;
+}
+
+/* How a key was put into a map. Where there is no room the answer is DSTM_OK all the same, so that dstm_atomically does not
+   give the transaction up: the body says what follows. */
+typedef enum dstm_placed {
+    DSTM_NEW = 0,     /* it was not there */
+    DSTM_INSTEAD = 1, /* it was there, and has another value now */
+    DSTM_NO_ROOM = 2  /* it was not there, and there is no room for another one: nothing is set */
+} dstm_placed;
+
+/* A hash map from numbers to pairs of words. A call on it reads the places at which its key is looked for, one or two on
+   the average while at most half of them are taken, and more as the map fills up; and the key's value: so transactions on
+   different keys seldom stand in one another's way. Give it room for twice the keys that it is to hold. */
+typedef struct dstm_map { dstm_cell first; uint32_t capacity; } dstm_map;
+
+/* A new map, which has room for so many keys, in twice as many cells. */
+static inline dstm_code dstm_map_new(dstm_memory *memory, uint32_t capacity, dstm_map *map) {
+    dstm_map made = {0, capacity};
+    dstm_code code = DSTM_CALL(memory && map, dstmc_map_new(memory, capacity, &made.first));
+    if (!code) *map = made;
+    return code;
+}
+/* How many keys it has. It looks at each place, so that each transaction that adds a key or takes one out stands in its
+   way. */
+static inline dstm_code dstm_map_len(dstm_thread *me, dstm_map map, uint64_t *length) {
+    uint32_t count = 0;
+    dstm_code code = DSTM_CALL(me && length, dstmc_map_len(me, map.first, map.capacity, &count));
+    if (!code) *length = count;
+    return code;
+}
+/* Tells the value of a key, if the key is there: there is 1 then. Else it is 0, and low and high are as they were. */
+static inline dstm_code dstm_map_get(dstm_thread *me, dstm_map map, uint64_t key, uint32_t *there, uint64_t *low,
+                                     uint64_t *high) {
+    return DSTM_CALL(me && there && low && high && low != high,
+                     dstmc_map_get(me, map.first, map.capacity, key, there, low, high));
+}
+static inline dstm_code dstm_map_get_u64(dstm_thread *me, dstm_map map, uint64_t key, uint32_t *there, uint64_t *low) {
+    uint64_t high = 0;
+    return dstm_map_get(me, map, key, there, low, &high);
+}
+/* Tells whether a key is there. */
+static inline dstm_code dstm_map_contains(dstm_thread *me, dstm_map map, uint64_t key, uint32_t *there) {
+    return DSTM_CALL(me && there, dstmc_map_contains(me, map.first, map.capacity, key, there));
+}
+/* Gives a key this value, and adds the key where it is not there. It tells how (dstm_placed), and what the key had, which
+   is as it was where placed is not DSTM_INSTEAD. DSTM_NO_ROOM is told only where so many keys are there as it was made
+   for. */
+static inline dstm_code dstm_map_put(dstm_thread *me, dstm_map map, uint64_t key, uint64_t low, uint64_t high,
+                                     uint32_t *placed, uint64_t *had_low, uint64_t *had_high) {
+    return DSTM_CALL(me && placed && had_low && had_high && had_low != had_high,
+                     dstmc_map_put(me, map.first, map.capacity, key, low, high, placed, had_low, had_high));
+}
+static inline dstm_code dstm_map_put_u64(dstm_thread *me, dstm_map map, uint64_t key, uint64_t low, uint32_t *placed) {
+    uint64_t had_low = 0, had_high = 0;
+    return dstm_map_put(me, map, key, low, 0, placed, &had_low, &had_high);
+}
+/* Takes a key out, and tells what it had, if it was there: as dstm_map_get does. */
+static inline dstm_code dstm_map_remove(dstm_thread *me, dstm_map map, uint64_t key, uint32_t *there, uint64_t *low,
+                                        uint64_t *high) {
+    return DSTM_CALL(me && there && low && high && low != high,
+                     dstmc_map_remove(me, map.first, map.capacity, key, there, low, high));
+}
+static inline dstm_code dstm_map_remove_u64(dstm_thread *me, dstm_map map, uint64_t key, uint32_t *there, uint64_t *low) {
+    uint64_t high = 0;
+    return dstm_map_remove(me, map, key, there, low, &high);
 }
 
 #ifdef __cplusplus

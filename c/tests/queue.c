@@ -62,7 +62,7 @@ static void alone(dstm_thread *me) {
 
 /* What cannot be, by the code that it has. */
 static void misused(dstm_memory *memory, dstm_thread *me) {
-    dstm_queue made = {0, 0}, wide = {queue.first, 524287}, far = {queue.first + 1, ROOM}, none = {queue.first, 0};
+    dstm_queue made = {0, 0}, wide = {queue.first + 1, 524287}, far = {queue.first + 1, ROOM}, none = {queue.first, 0};
     uint64_t low = 7, high = 8;
     uint32_t pushed = 9;
     IS(DSTM_BUSY, dstm_queue_new(memory, 4, &made));

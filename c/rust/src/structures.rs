@@ -1,7 +1,9 @@
 //! What is made of cells.
+mod map;
 mod pool;
 mod queue;
 
+pub use map::{HashMap, Placed};
 pub use pool::Pool;
 pub use queue::Queue;
 
