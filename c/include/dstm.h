@@ -115,6 +115,27 @@ uint32_t dstmc_map_put(dstm_thread *thread, uint32_t first, uint32_t capacity, u
 uint32_t dstmc_map_remove(dstm_thread *thread, uint32_t first, uint32_t capacity, uint64_t key, uint32_t *there,
                           uint64_t *low, uint64_t *high);
 uint32_t dstmc_map_len(dstm_thread *thread, uint32_t first, uint32_t capacity, uint32_t *len);
+uint32_t dstmc_ordered_new(dstm_memory *memory, uint32_t capacity, uint32_t *first);
+uint32_t dstmc_ordered_get(dstm_thread *thread, uint32_t first, uint32_t capacity, uint64_t key, uint32_t *there,
+                           uint64_t *low, uint64_t *high);
+uint32_t dstmc_ordered_contains(dstm_thread *thread, uint32_t first, uint32_t capacity, uint64_t key, uint32_t *there);
+uint32_t dstmc_ordered_put(dstm_thread *thread, uint32_t first, uint32_t capacity, uint64_t key, uint64_t low,
+                           uint64_t high, uint32_t *placed, uint64_t *had_low, uint64_t *had_high);
+uint32_t dstmc_ordered_remove(dstm_thread *thread, uint32_t first, uint32_t capacity, uint64_t key, uint32_t *there,
+                              uint64_t *low, uint64_t *high);
+uint32_t dstmc_ordered_len(dstm_thread *thread, uint32_t first, uint32_t capacity, uint32_t *len);
+uint32_t dstmc_ordered_first(dstm_thread *thread, uint32_t first, uint32_t capacity, uint32_t *there, uint64_t *key,
+                             uint64_t *low, uint64_t *high);
+uint32_t dstmc_ordered_last(dstm_thread *thread, uint32_t first, uint32_t capacity, uint32_t *there, uint64_t *key,
+                            uint64_t *low, uint64_t *high);
+uint32_t dstmc_ordered_next_above(dstm_thread *thread, uint32_t first, uint32_t capacity, uint64_t bound,
+                                  uint32_t *there, uint64_t *key, uint64_t *low, uint64_t *high);
+uint32_t dstmc_ordered_next_below(dstm_thread *thread, uint32_t first, uint32_t capacity, uint64_t bound,
+                                  uint32_t *there, uint64_t *key, uint64_t *low, uint64_t *high);
+uint32_t dstmc_ordered_pop_first(dstm_thread *thread, uint32_t first, uint32_t capacity, uint32_t *there, uint64_t *key,
+                                 uint64_t *low, uint64_t *high);
+uint32_t dstmc_ordered_pop_last(dstm_thread *thread, uint32_t first, uint32_t capacity, uint32_t *there, uint64_t *key,
+                                uint64_t *low, uint64_t *high);
 
 #define DSTM_CALL(test, call) ((test) ? (dstm_code)(call) : DSTM_NULL)
 
@@ -300,7 +321,7 @@ static inline dstm_code dstm_atomically(dstm_thread *me, dstm_body body, void *w
 
    A call on one is a part of the transaction under way, as dstm_get and dstm_set are. Besides what it says it answers
    AGAIN, IDLE and CLOSED as these do; RANGE, for a name that no memory has room for; FOREIGN, where it comes upon a cell
-   that this memory has not; and MEMORY, behind a dstm_mark alone, where it sets something, of which a part may be set then.
+   that this memory has not; and MEMORY, behind a dstm_mark alone, where it sets something: a part of it may be set then.
    Where it answers a code that is not OK nothing is written to what its pointers lead to.
 
    The program sets none of their cells by itself, and takes no name but one that was told: nothing checks that, and what
@@ -364,8 +385,8 @@ static inline dstm_code dstm_queue_pop_u64(dstm_thread *me, dstm_queue queue, ui
     return dstm_queue_pop(me, queue, low, &high);
 }
 
-/* A pool of cells, out of which transactions take new cells while threads have parts, and give them back. Beside each cell
-   stands a mark, which tells whether it is taken. */
+/* A pool of cells, out of which transactions take new cells while threads have parts, and give them back. Beside each
+   cell stands a mark, which tells whether it is taken. */
 typedef struct dstm_pool { dstm_cell first; uint32_t cells; } dstm_pool;
 
 /* A new pool of so many cells, none of which is taken, in twice as many new cells. */
@@ -396,8 +417,8 @@ static inline dstm_code dstm_pool_give(dstm_thread *me, dstm_pool pool, dstm_cel
     return code || given ? code : DSTM_FOREIGN;
 }
 
-/* How a key was put into a map. Where there is no room the answer is DSTM_OK all the same, so that dstm_atomically does not
-   give the transaction up: the body says what follows. */
+/* How a key was put into a map. Where there is no room the answer is DSTM_OK all the same, so that dstm_atomically does
+   not give the transaction up: the body says what follows. */
 typedef enum dstm_placed {
     DSTM_NEW = 0,     /* it was not there */
     DSTM_INSTEAD = 1, /* it was there, and has another value now */
@@ -459,6 +480,120 @@ static inline dstm_code dstm_map_remove(dstm_thread *me, dstm_map map, uint64_t 
 static inline dstm_code dstm_map_remove_u64(dstm_thread *me, dstm_map map, uint64_t key, uint32_t *there, uint64_t *low) {
     uint64_t high = 0;
     return dstm_map_remove(me, map, key, there, low, &high);
+}
+
+/* A map that also tells its keys by their order. A key is looked up as in a dstm_map. The order is a tree over the keys'
+   bits beside it, in which at most 64 forks stand on a way, no more than the keys have bits, and for keys that come by
+   chance about as many as their count has: a call that asks for a key by its order, that adds one or that takes one out
+   reads those on its way, and one that adds or takes out sets one of them. Two such transactions stand in one another's
+   way where one sets a fork on the way of the other. */
+typedef struct dstm_ordered { dstm_cell first; uint32_t capacity; } dstm_ordered;
+
+/* A key with its value. */
+typedef struct dstm_entry { uint64_t key, low, high; } dstm_entry;
+
+/* A new one, which has room for so many keys, in three times as many cells and one more. */
+static inline dstm_code dstm_ordered_new(dstm_memory *memory, uint32_t capacity, dstm_ordered *map) {
+    dstm_ordered made = {0, capacity};
+    dstm_code code = DSTM_CALL(memory && map, dstmc_ordered_new(memory, capacity, &made.first));
+    if (!code) *map = made;
+    return code;
+}
+/* These do what those of a dstm_map do. */
+static inline dstm_code dstm_ordered_len(dstm_thread *me, dstm_ordered map, uint64_t *length) {
+    uint32_t count = 0;
+    dstm_code code = DSTM_CALL(me && length, dstmc_ordered_len(me, map.first, map.capacity, &count));
+    if (!code) *length = count;
+    return code;
+}
+static inline dstm_code dstm_ordered_get(dstm_thread *me, dstm_ordered map, uint64_t key, uint32_t *there, uint64_t *low,
+                                         uint64_t *high) {
+    return DSTM_CALL(me && there && low && high && low != high,
+                     dstmc_ordered_get(me, map.first, map.capacity, key, there, low, high));
+}
+static inline dstm_code dstm_ordered_get_u64(dstm_thread *me, dstm_ordered map, uint64_t key, uint32_t *there,
+                                             uint64_t *low) {
+    uint64_t high = 0;
+    return dstm_ordered_get(me, map, key, there, low, &high);
+}
+static inline dstm_code dstm_ordered_contains(dstm_thread *me, dstm_ordered map, uint64_t key, uint32_t *there) {
+    return DSTM_CALL(me && there, dstmc_ordered_contains(me, map.first, map.capacity, key, there));
+}
+static inline dstm_code dstm_ordered_put(dstm_thread *me, dstm_ordered map, uint64_t key, uint64_t low, uint64_t high,
+                                         uint32_t *placed, uint64_t *had_low, uint64_t *had_high) {
+    return DSTM_CALL(me && placed && had_low && had_high && had_low != had_high,
+                     dstmc_ordered_put(me, map.first, map.capacity, key, low, high, placed, had_low, had_high));
+}
+static inline dstm_code dstm_ordered_put_u64(dstm_thread *me, dstm_ordered map, uint64_t key, uint64_t low,
+                                             uint32_t *placed) {
+    uint64_t had_low = 0, had_high = 0;
+    return dstm_ordered_put(me, map, key, low, 0, placed, &had_low, &had_high);
+}
+static inline dstm_code dstm_ordered_remove(dstm_thread *me, dstm_ordered map, uint64_t key, uint32_t *there,
+                                            uint64_t *low, uint64_t *high) {
+    return DSTM_CALL(me && there && low && high && low != high,
+                     dstmc_ordered_remove(me, map.first, map.capacity, key, there, low, high));
+}
+static inline dstm_code dstm_ordered_remove_u64(dstm_thread *me, dstm_ordered map, uint64_t key, uint32_t *there,
+                                                uint64_t *low) {
+    uint64_t high = 0;
+    return dstm_ordered_remove(me, map, key, there, low, &high);
+}
+/* Tells the first key with its value, if there is one: there is 1 then. Else it is 0, and the others are as they were. */
+static inline dstm_code dstm_ordered_first(dstm_thread *me, dstm_ordered map, uint32_t *there,
+                                           uint64_t *key, uint64_t *low, uint64_t *high) {
+    return DSTM_CALL(me && there && key && low && high && key != low && key != high && low != high,
+                     dstmc_ordered_first(me, map.first, map.capacity, there, key, low, high));
+}
+/* The same of the last key. */
+static inline dstm_code dstm_ordered_last(dstm_thread *me, dstm_ordered map, uint32_t *there,
+                                          uint64_t *key, uint64_t *low, uint64_t *high) {
+    return DSTM_CALL(me && there && key && low && high && key != low && key != high && low != high,
+                     dstmc_ordered_last(me, map.first, map.capacity, there, key, low, high));
+}
+/* The same of the first key above a bound, which need not be there. */
+static inline dstm_code dstm_ordered_next_above(dstm_thread *me, dstm_ordered map, uint64_t bound, uint32_t *there,
+                                                uint64_t *key, uint64_t *low, uint64_t *high) {
+    return DSTM_CALL(me && there && key && low && high && key != low && key != high && low != high,
+                     dstmc_ordered_next_above(me, map.first, map.capacity, bound, there, key, low, high));
+}
+/* The same of the last key below a bound, which need not be there. */
+static inline dstm_code dstm_ordered_next_below(dstm_thread *me, dstm_ordered map, uint64_t bound, uint32_t *there,
+                                                uint64_t *key, uint64_t *low, uint64_t *high) {
+    return DSTM_CALL(me && there && key && low && high && key != low && key != high && low != high,
+                     dstmc_ordered_next_below(me, map.first, map.capacity, bound, there, key, low, high));
+}
+/* Takes the first key out, and tells it with its value, if there is one: as dstm_ordered_first does. */
+static inline dstm_code dstm_ordered_pop_first(dstm_thread *me, dstm_ordered map, uint32_t *there,
+                                               uint64_t *key, uint64_t *low, uint64_t *high) {
+    return DSTM_CALL(me && there && key && low && high && key != low && key != high && low != high,
+                     dstmc_ordered_pop_first(me, map.first, map.capacity, there, key, low, high));
+}
+/* The same of the last key. */
+static inline dstm_code dstm_ordered_pop_last(dstm_thread *me, dstm_ordered map, uint32_t *there,
+                                              uint64_t *key, uint64_t *low, uint64_t *high) {
+    return DSTM_CALL(me && there && key && low && high && key != low && key != high && low != high,
+                     dstmc_ordered_pop_last(me, map.first, map.capacity, there, key, low, high));
+}
+/* Tells the keys that are not below from, with their values, in their order: so many at most, and how many there were.
+   To go on, ask again from behind the last one. It costs what dstm_ordered_next_above costs for each. Where it answers a
+   code that is not OK some entries may be written, and count is as it was. */
+static inline dstm_code dstm_ordered_scan(dstm_thread *me, dstm_ordered map, uint64_t from, uint32_t most,
+                                          dstm_entry *entries, uint32_t *count) {
+    uint32_t n = 0, there = 1;
+    if (!entries || !count) return DSTM_NULL;
+    while (n < most && there) {
+        dstm_entry *it = &entries[n];
+        dstm_code code = from ? dstm_ordered_next_above(me, map, from - 1, &there, &it->key, &it->low, &it->high)
+                              : dstm_ordered_first(me, map, &there, &it->key, &it->low, &it->high);
+        if (code) return code;
+        if (!there) break;
+        n++;
+        if (it->key == UINT64_MAX) break;
+        from = it->key + 1;
+    }
+    *count = n;
+    return DSTM_OK;
 }
 
 #ifdef __cplusplus

@@ -1,9 +1,11 @@
 //! What is made of cells.
 mod map;
+mod ordered;
 mod pool;
 mod queue;
 
 pub use map::{HashMap, Placed};
+pub use ordered::{OrderedMap, Scan};
 pub use pool::Pool;
 pub use queue::Queue;
 

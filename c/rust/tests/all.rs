@@ -1,5 +1,5 @@
 use dstm::{Cell, Engine, Error, HashMap, Memory, Placed, Stop, Thread, Tx};
-use std::collections::HashMap as Plain;
+use std::collections::{BTreeMap, HashMap as Plain};
 use std::panic::{catch_unwind, AssertUnwindSafe};
 use std::thread::{scope, ScopedJoinHandle};
 
@@ -409,6 +409,56 @@ fn each_key_is_in_one_of_two_maps() {
             }
             joined(movers)
         });
+    }
+}
+
+#[test]
+fn an_ordered_map_does_what_a_plain_one_does() {
+    const ROOM: usize = 12;
+    for engine in [Engine::Tl2, Engine::Polka] {
+        let mut memory = Memory::with_engine(1, engine).unwrap();
+        let map = memory.ordered_map::<i64>(ROOM as u32).unwrap();
+        let mut me = memory.thread().unwrap();
+        let (mut plain, mut chance) = (BTreeMap::new(), Chance(1));
+        for _ in 0..2_000 {
+            let mut trial: BTreeMap<u64, i64> = plain.clone();
+            let is_given_up = chance.below(4) == 0;
+            let ended = me.atomically(|tx| {
+                for _ in 0..chance.below(12) {
+                    let (key, value) = (u64::MAX >> (3 * chance.below(21)), -(chance.next() as i64));
+                    let pair = |(key, value): (&u64, &i64)| (*key, *value);
+                    match chance.below(12) {
+                        0 => assert_eq!(map.remove(tx, key)?, trial.remove(&key)),
+                        1 => assert_eq!(map.get(tx, key)?, trial.get(&key).copied()),
+                        2 => assert_eq!(map.contains(tx, key)?, trial.contains_key(&key)),
+                        3 => assert_eq!(map.first(tx)?, trial.iter().next().map(pair)),
+                        4 => assert_eq!(map.last(tx)?, trial.iter().next_back().map(pair)),
+                        5 => assert_eq!(map.pop_first(tx)?, trial.pop_first()),
+                        6 => assert_eq!(map.pop_last(tx)?, trial.pop_last()),
+                        7 => assert_eq!(map.next_below(tx, key)?, trial.range(..key).next_back().map(pair)),
+                        8 => {
+                            let next = trial.range(key..).find(|it| *it.0 > key);
+                            assert_eq!(map.next_above(tx, key)?, next.map(pair));
+                        }
+                        _ if trial.len() == ROOM && !trial.contains_key(&key) => {
+                            assert_eq!(map.put(tx, key, value)?, Placed::Full);
+                        }
+                        _ => {
+                            let placed = trial.insert(key, value).map_or(Placed::New, Placed::Instead);
+                            assert_eq!(map.put(tx, key, value)?, placed);
+                        }
+                    }
+                }
+                assert_eq!(map.len(tx)?, trial.len() as u64);
+                let from = u64::MAX >> chance.below(64);
+                let found: Vec<(u64, i64)> = map.scan(tx, from).collect::<Result<_, _>>()?;
+                assert!(found.iter().copied().eq(trial.range(from..).map(|it| (*it.0, *it.1))));
+                if is_given_up { Err(Stop::Failed(Error::Range)) } else { Ok(()) }
+            });
+            if ended.is_ok() {
+                plain = trial;
+            }
+        }
     }
 }
 
