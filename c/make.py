@@ -32,11 +32,12 @@ ROOT = os.path.dirname(HERE)
 OUT = f"{HERE}/out"
 HEADER = f"{HERE}/include/dstm.h"
 EXPORTS = f"{ROOT}/crates/dstm_c/src"
-TESTS = ("first", "counter", "bank", "queue", "pool", "map", "ordered", "alternatives", "parts", "turn", "misuse", "refused")
+TESTS = ("first", "counter", "bank", "queue", "pool", "map", "ordered", "set", "alternatives")
+TESTS += ("parts", "turn", "misuse", "refused")
 # By which engines a test runs where it takes long; where none is named it runs by all of them.
 BOTH = ("tl2", "polka")
 # The tests that have threads.
-THREADED = ("counter", "bank", "queue", "pool", "map", "ordered", "turn")
+THREADED = ("counter", "bank", "queue", "pool", "map", "ordered", "set", "turn")
 # What a test is built with besides.
 LINKED = {"refused": ("-Wl,--wrap=malloc,--wrap=realloc,--wrap=free",)}
 # A command that has not ended after so many seconds never will, however slow the machine.

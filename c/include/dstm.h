@@ -136,6 +136,19 @@ uint32_t dstmc_ordered_pop_first(dstm_thread *thread, uint32_t first, uint32_t c
                                  uint64_t *low, uint64_t *high);
 uint32_t dstmc_ordered_pop_last(dstm_thread *thread, uint32_t first, uint32_t capacity, uint32_t *there, uint64_t *key,
                                 uint64_t *low, uint64_t *high);
+uint32_t dstmc_set_new(dstm_memory *memory, uint32_t capacity, uint32_t *first);
+uint32_t dstmc_set_insert(dstm_thread *thread, uint32_t first, uint32_t capacity, uint64_t key, uint32_t *inserted);
+uint32_t dstmc_set_remove(dstm_thread *thread, uint32_t first, uint32_t capacity, uint64_t key, uint32_t *there);
+uint32_t dstmc_set_contains(dstm_thread *thread, uint32_t first, uint32_t capacity, uint64_t key, uint32_t *there);
+uint32_t dstmc_set_len(dstm_thread *thread, uint32_t first, uint32_t capacity, uint32_t *len);
+uint32_t dstmc_set_first(dstm_thread *thread, uint32_t first, uint32_t capacity, uint32_t *there, uint64_t *key);
+uint32_t dstmc_set_last(dstm_thread *thread, uint32_t first, uint32_t capacity, uint32_t *there, uint64_t *key);
+uint32_t dstmc_set_next_above(dstm_thread *thread, uint32_t first, uint32_t capacity, uint64_t bound, uint32_t *there,
+                              uint64_t *key);
+uint32_t dstmc_set_next_below(dstm_thread *thread, uint32_t first, uint32_t capacity, uint64_t bound, uint32_t *there,
+                              uint64_t *key);
+uint32_t dstmc_set_pop_first(dstm_thread *thread, uint32_t first, uint32_t capacity, uint32_t *there, uint64_t *key);
+uint32_t dstmc_set_pop_last(dstm_thread *thread, uint32_t first, uint32_t capacity, uint32_t *there, uint64_t *key);
 
 #define DSTM_CALL(test, call) ((test) ? (dstm_code)(call) : DSTM_NULL)
 
@@ -591,6 +604,79 @@ static inline dstm_code dstm_ordered_scan(dstm_thread *me, dstm_ordered map, uin
         n++;
         if (it->key == UINT64_MAX) break;
         from = it->key + 1;
+    }
+    *count = n;
+    return DSTM_OK;
+}
+
+/* A set of numbers that tells them by their order: a dstm_ordered without values, of which all holds that is said there.
+   (dstm_set is the call that puts a value into a cell.) */
+typedef struct dstm_ordered_set { dstm_cell first; uint32_t capacity; } dstm_ordered_set;
+
+/* A new set, which has room for so many keys, in three times as many cells and one more. */
+static inline dstm_code dstm_set_new(dstm_memory *memory, uint32_t capacity, dstm_ordered_set *set) {
+    dstm_ordered_set made = {0, capacity};
+    dstm_code code = DSTM_CALL(memory && set, dstmc_set_new(memory, capacity, &made.first));
+    if (!code) *set = made;
+    return code;
+}
+/* How many keys it has: as dstm_map_len. */
+static inline dstm_code dstm_set_len(dstm_thread *me, dstm_ordered_set set, uint64_t *length) {
+    uint32_t count = 0;
+    dstm_code code = DSTM_CALL(me && length, dstmc_set_len(me, set.first, set.capacity, &count));
+    if (!code) *length = count;
+    return code;
+}
+/* Tells whether a key is in it. */
+static inline dstm_code dstm_set_contains(dstm_thread *me, dstm_ordered_set set, uint64_t key, uint32_t *there) {
+    return DSTM_CALL(me && there, dstmc_set_contains(me, set.first, set.capacity, key, there));
+}
+/* Inserts a key, and tells how: DSTM_NEW; DSTM_INSTEAD, where it was there, or DSTM_NO_ROOM: then nothing is set. */
+static inline dstm_code dstm_set_insert(dstm_thread *me, dstm_ordered_set set, uint64_t key, uint32_t *inserted) {
+    return DSTM_CALL(me && inserted, dstmc_set_insert(me, set.first, set.capacity, key, inserted));
+}
+/* Takes a key out, and tells whether it was there. */
+static inline dstm_code dstm_set_remove(dstm_thread *me, dstm_ordered_set set, uint64_t key, uint32_t *there) {
+    return DSTM_CALL(me && there, dstmc_set_remove(me, set.first, set.capacity, key, there));
+}
+/* Tells the first key, if there is one: there is 1 then. Else it is 0, and key is as it was. */
+static inline dstm_code dstm_set_first(dstm_thread *me, dstm_ordered_set set, uint32_t *there, uint64_t *key) {
+    return DSTM_CALL(me && there && key, dstmc_set_first(me, set.first, set.capacity, there, key));
+}
+/* The same of the last key. */
+static inline dstm_code dstm_set_last(dstm_thread *me, dstm_ordered_set set, uint32_t *there, uint64_t *key) {
+    return DSTM_CALL(me && there && key, dstmc_set_last(me, set.first, set.capacity, there, key));
+}
+/* The same of the first key above a bound, which need not be there. */
+static inline dstm_code dstm_set_next_above(dstm_thread *me, dstm_ordered_set set, uint64_t bound, uint32_t *there,
+                                            uint64_t *key) {
+    return DSTM_CALL(me && there && key, dstmc_set_next_above(me, set.first, set.capacity, bound, there, key));
+}
+/* The same of the last key below a bound, which need not be there. */
+static inline dstm_code dstm_set_next_below(dstm_thread *me, dstm_ordered_set set, uint64_t bound, uint32_t *there,
+                                            uint64_t *key) {
+    return DSTM_CALL(me && there && key, dstmc_set_next_below(me, set.first, set.capacity, bound, there, key));
+}
+/* Takes the first key out, and tells it, if there is one: as dstm_set_first does. */
+static inline dstm_code dstm_set_pop_first(dstm_thread *me, dstm_ordered_set set, uint32_t *there, uint64_t *key) {
+    return DSTM_CALL(me && there && key, dstmc_set_pop_first(me, set.first, set.capacity, there, key));
+}
+/* The same of the last key. */
+static inline dstm_code dstm_set_pop_last(dstm_thread *me, dstm_ordered_set set, uint32_t *there, uint64_t *key) {
+    return DSTM_CALL(me && there && key, dstmc_set_pop_last(me, set.first, set.capacity, there, key));
+}
+/* Tells the keys that are not below from: as dstm_ordered_scan does. */
+static inline dstm_code dstm_set_scan(dstm_thread *me, dstm_ordered_set set, uint64_t from, uint32_t most,
+                                      uint64_t *keys, uint32_t *count) {
+    uint32_t n = 0, there = 1;
+    if (!keys || !count) return DSTM_NULL;
+    while (n < most && there) {
+        dstm_code code = from ? dstm_set_next_above(me, set, from - 1, &there, &keys[n])
+                              : dstm_set_first(me, set, &there, &keys[n]);
+        if (code) return code;
+        if (!there) break;
+        from = keys[n++];
+        if (from++ == UINT64_MAX) break;
     }
     *count = n;
     return DSTM_OK;

@@ -98,7 +98,7 @@ use core::mem::forget;
 use core::ptr::null_mut;
 use core::sync::atomic::{AtomicU64, Ordering};
 use lock::{give_way, Lock};
-pub use structures::{HashMap, OrderedMap, Placed, Pool, Queue, Scan};
+pub use structures::{HashMap, Inserted, Keys, OrderedMap, OrderedSet, Placed, Pool, Queue, Scan};
 
 // What `dstm.h` calls dstm_memory and dstm_thread.
 #[repr(C)]

@@ -3,11 +3,13 @@ mod map;
 mod ordered;
 mod pool;
 mod queue;
+mod set;
 
 pub use map::{HashMap, Placed};
 pub use ordered::{OrderedMap, Scan};
 pub use pool::Pool;
 pub use queue::Queue;
+pub use set::{Inserted, Keys, OrderedSet};
 
 use crate::{done, Error, Handle, Memory, Stop, Tx};
 

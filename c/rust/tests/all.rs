@@ -1,5 +1,5 @@
-use dstm::{Cell, Engine, Error, HashMap, Memory, Placed, Stop, Thread, Tx};
-use std::collections::{BTreeMap, HashMap as Plain};
+use dstm::{Cell, Engine, Error, HashMap, Inserted, Memory, Placed, Stop, Thread, Tx};
+use std::collections::{BTreeMap, BTreeSet, HashMap as Plain};
 use std::panic::{catch_unwind, AssertUnwindSafe};
 use std::thread::{scope, ScopedJoinHandle};
 
@@ -453,6 +453,58 @@ fn an_ordered_map_does_what_a_plain_one_does() {
                 let from = u64::MAX >> chance.below(64);
                 let found: Vec<(u64, i64)> = map.scan(tx, from).collect::<Result<_, _>>()?;
                 assert!(found.iter().copied().eq(trial.range(from..).map(|it| (*it.0, *it.1))));
+                if is_given_up { Err(Stop::Failed(Error::Range)) } else { Ok(()) }
+            });
+            if ended.is_ok() {
+                plain = trial;
+            }
+        }
+    }
+}
+
+#[test]
+fn a_set_does_what_a_plain_one_does() {
+    const ROOM: usize = 12;
+    for engine in [Engine::Tl2, Engine::Polka] {
+        let mut memory = Memory::with_engine(1, engine).unwrap();
+        let set = memory.ordered_set(ROOM as u32).unwrap();
+        let mut me = memory.thread().unwrap();
+        let (mut plain, mut chance) = (BTreeSet::new(), Chance(1));
+        for _ in 0..2_000 {
+            let mut trial: BTreeSet<u64> = plain.clone();
+            let is_given_up = chance.below(4) == 0;
+            let ended = me.atomically(|tx| {
+                for _ in 0..chance.below(12) {
+                    let key = u64::MAX >> (3 * chance.below(21));
+                    match chance.below(12) {
+                        0 => assert_eq!(set.remove(tx, key)?, trial.remove(&key)),
+                        1 => assert_eq!(set.contains(tx, key)?, trial.contains(&key)),
+                        2 => assert_eq!(set.first(tx)?, trial.first().copied()),
+                        3 => assert_eq!(set.last(tx)?, trial.last().copied()),
+                        4 => assert_eq!(set.pop_first(tx)?, trial.pop_first()),
+                        5 => assert_eq!(set.pop_last(tx)?, trial.pop_last()),
+                        6 => assert_eq!(set.next_below(tx, key)?, trial.range(..key).next_back().copied()),
+                        7 => {
+                            let next = trial.range(key..).find(|it| **it > key);
+                            assert_eq!(set.next_above(tx, key)?, next.copied());
+                        }
+                        _ => {
+                            let inserted = match trial.len() {
+                                _ if trial.contains(&key) => Inserted::There,
+                                ROOM => Inserted::Full,
+                                _ => Inserted::New,
+                            };
+                            assert_eq!(set.insert(tx, key)?, inserted);
+                            if inserted == Inserted::New {
+                                trial.insert(key);
+                            }
+                        }
+                    }
+                }
+                assert_eq!(set.len(tx)?, trial.len() as u64);
+                let from = u64::MAX >> chance.below(64);
+                let found: Vec<u64> = set.scan(tx, from).collect::<Result<_, _>>()?;
+                assert!(found.iter().eq(trial.range(from..)));
                 if is_given_up { Err(Stop::Failed(Error::Range)) } else { Ok(()) }
             });
             if ended.is_ok() {
