@@ -340,10 +340,12 @@ def sanitized(compiler, kind, room):
             call([program, engine])
 
 
-def python():
+def python(name, says):
+    """Runs a test of dstm.py."""
     for engine in ("0", "1"):
-        said = call([sys.executable, f"{HERE}/python/counter.py", f"{OUT}/libdstm.so", engine]).strip()
-        if said != "4000":
+        words, how = [sys.executable, f"{HERE}/python/{name}", engine], {**os.environ, "DSTM_LIB": f"{OUT}/libdstm.so"}
+        said = call(words, env={**how, "PYTHONDONTWRITEBYTECODE": "1"}).strip()
+        if said != says:
             raise Failed(f"it says {said}")
 
 
@@ -470,7 +472,8 @@ def main():
                     name = f"C tests under the {kind} sanitizer of {compiler}"
                     steps.step(name, lambda compiler=compiler, kind=kind: sanitized(compiler, kind, room))
             if steps.step("libdstm.so", shared):
-                steps.step("counter.py", python)
+                steps.step("counter.py", lambda: python("counter.py", "4000"))
+                steps.step("structures.py", lambda: python("structures.py", "done"))
                 steps.step("counter.c as installed", lambda: by_pkg_config(room))
             if steps.step("the crate dstm for Rust", lambda: rust(room)):
                 without = ("--no-default-features", "--test", "all")
