@@ -436,9 +436,11 @@ def by_pkg_config(room):
 
 
 def bench():
-    """Measures transactions beside a mutex and beside gcc's transactional memory, by each of its methods."""
+    """Measures transactions beside a mutex and beside gcc's transactional memory, by each of its methods; and reservations
+    on maps."""
     tool("gcc")
-    print(call([sys.executable, f"{ROOT}/bench/c_library.py", "--library", f"{OUT}/libdstm.a"]), end="", flush=True)
+    for name in ("c_library.py", "reserve.py"):
+        print(call([sys.executable, f"{ROOT}/bench/{name}", "--library", f"{OUT}/libdstm.a"]), end="", flush=True)
 
 
 def main():
