@@ -8,6 +8,7 @@
 
 DSTM_LIB names the library; else it is the one in c/out. By DSTM a part is spent after 65,536 attempts: Failed(SPENT)."""
 import ctypes
+import functools
 import os
 import threading
 import time
@@ -28,10 +29,12 @@ CALLS = dict(memory_new="hnn", memory_free="h", cell_new="hwwN", peek="hnWW", th
 CALLS.update(begin="h", get="hnWW", set="hnww", commit="h", abort="h", look="h")
 CALLS.update(queue_new="hnN", queue_try_push="hnnwwN", queue_try_pop="hnnNWW", queue_len="hnnN")
 CALLS.update(map_new="hnN", map_get="hnnwNWW", map_put="hnnwwwNWW", map_remove="hnnwNWW", map_len="hnnN")
+CALLS.update({f"ordered_{name[4:]}": types for name, types in CALLS.items() if name.startswith("map_")})
+CALLS.update({f"ordered_{name}": "hnnNWWW" for name in ("first", "last", "pop_first", "pop_last")})
+CALLS.update(ordered_next_above="hnnwNWWW", ordered_next_below="hnnwNWWW")
 lib = ctypes.CDLL(os.environ.get("DSTM_LIB") or os.path.join(os.path.dirname(__file__), "../out/libdstm.so"))
 for name, letters in CALLS.items():
-    types = [TYPES[it] if it in "nw" else ctypes.POINTER(TYPES[it]) for it in letters]
-    getattr(lib, f"dstmc_{name}").argtypes, getattr(lib, f"dstmc_{name}").restype = types, ctypes.c_uint32
+    getattr(lib, f"dstmc_{name}").argtypes = [TYPES[it] if it in "nw" else ctypes.POINTER(TYPES[it]) for it in letters]
 words = lambda number: (number & (1 << 64) - 1, number >> 64)
 number_of = lambda low, high: low | high << 64
 
@@ -132,9 +135,16 @@ class Queue(Structure):
 
 
 class Map(Structure):
-    """A hash map from numbers below 2 ** 64. put tells 0 of a new key, 1 of one that was there, 2 where there is no room."""
+    """A hash map. put tells 0 of a key that was not there, 1 of one that was, and 2 where there is no room for it."""
 
     kind = "map"
     get = lambda self, tx, key: self.told("get", tx, key)
     remove = lambda self, tx, key: self.told("remove", tx, key)
     put = lambda self, tx, key, number: self.call("put", tx, key, *words(number))[0]
+
+
+class OrderedMap(Map):
+    """The same; by the order of its keys it tells a key with its number, or None: first(tx), next_above(tx, bound) .."""
+
+    kind = "ordered"
+    __getattr__ = lambda self, name: functools.partial(self.told, name)

@@ -30,6 +30,20 @@ def beside_a_dict(tx, each, plain):
     assert each.len(tx) == len(plain)
 
 
+def beside_a_sorted_dict(tx, each, plain):
+    """The same on an ordered map, with calls by the order of the keys."""
+    for _ in range(chance.randrange(4)):
+        beside_a_dict(tx, each, plain)
+        keys, bound = sorted(plain), chance.choice(KEYS)
+        item = lambda found: (found[0], plain[found[0]]) if found else None
+        assert each.first(tx) == item(keys) and each.last(tx) == item(keys[::-1])
+        assert each.next_above(tx, bound) == item([key for key in keys if key > bound])
+        assert each.next_below(tx, bound) == item([key for key in keys[::-1] if key < bound])
+        name, at = chance.choice([("pop_first", 0), ("pop_last", -1)])
+        assert getattr(each, name)(tx) == item(keys[at:][:1])
+        plain.pop(keys[at], None) if keys else None
+
+
 def alone(me, each, check):
     plain = {}
 
@@ -102,9 +116,10 @@ def auditor(me):
 
 with dstm.Memory(3, engine) as memory:
     queue, small, here, there = dstm.Queue(memory, 4), dstm.Map(memory, ROOM), dstm.Map(memory, 40), dstm.Map(memory, 40)
-    taken, audits = [], []
+    ordered, taken, audits = dstm.OrderedMap(memory, ROOM), [], []
     with memory.part() as me:
         alone(me, small, beside_a_dict)
+        alone(me, ordered, beside_a_sorted_dict)
         for key in KEYS:
             me.atomically(lambda tx: here.put(tx, key, key))
     together(memory, [producer, consumer, lambda me: None])
