@@ -2,7 +2,7 @@
 """make.py: proves the library for programs in C, C++, Rust and Python, builds it, and tests it.
 
     python3 c/make.py                   leaves libdstm.a, libdstm.so.1 and dstm.pc in c/out, and runs all tests
-    python3 c/make.py --prefix FOLDER   and installs them, and dstm.h, below that folder
+    python3 c/make.py --prefix FOLDER   and installs them, and the headers, below that folder
     python3 c/make.py --quiet           says only what failed, what was skipped, and how many passed; and leaves out what
                                         another version of a tool may see otherwise: whether clippy has a warning, and
                                         what rustc's thread sanitizer says of a std that is not built with it
@@ -308,6 +308,14 @@ def run_test(name, room):
     call([build_test(name, c_compiler(), room)])
 
 
+def guard(compiler, room):
+    """Runs the test of dstm.hpp."""
+    words = [compiler_for(compiler), "-std=c++17", "-O2", *WARNINGS, f"-I{HERE}/include", f"{HERE}/tests/guard.cc"]
+    call([*words, f"{OUT}/libdstm.a", "-lpthread", "-o", f"{room}/guard"])
+    for engine in BOTH:
+        call([f"{room}/guard", engine])
+
+
 def million(room):
     """Four threads make a million transactions each, by one part each, as TL2 lets them."""
     call([build_test("counter", c_compiler(), room), "tl2", "1000000"])
@@ -412,6 +420,7 @@ def install(prefix):
     for folder in ("include", "lib/pkgconfig"):
         os.makedirs(f"{prefix}/{folder}", exist_ok=True)
     shutil.copyfile(HEADER, f"{prefix}/include/dstm.h")
+    shutil.copyfile(f"{HERE}/include/dstm.hpp", f"{prefix}/include/dstm.hpp")
     shutil.copyfile(f"{OUT}/libdstm.a", f"{prefix}/lib/libdstm.a")
     soname = f"libdstm.so.{NUMBERS[0]}"
     if os.path.isfile(f"{OUT}/{soname}"):
@@ -466,6 +475,8 @@ def main():
                 steps.step(name, lambda check=check: check() and None)
             for name in TESTS:
                 steps.step(f"{name}.c", lambda name=name: run_test(name, room))
+            for compiler in ("g++", "clang++"):
+                steps.step(f"guard.cc by {compiler}", lambda compiler=compiler: guard(compiler, room))
             steps.step("counter.c with 4,000,000 transactions", lambda: million(room))
             for name in TESTS[:-1]:
                 steps.step(f"{name}.c under valgrind", lambda name=name: valgrind(name, room))
