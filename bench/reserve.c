@@ -20,8 +20,7 @@ enum { ITEM, CUSTOMER, KEPT, MAPS, SORTS = 3, ITEMS = 4096, CUSTOMERS = 4096, MO
 struct task { int what; uint64_t customer, items[QUERIES]; };
 static struct row { uint64_t key, low, high; } rows[MAPS][PLACES]; /* 0 is no key, and 1 is one that is gone */
 static dstm_map maps[MAPS];
-static struct task *tasks[64];
-static int counts[64], locks;
+static int threads, each, locks;
 static pthread_mutex_t lock = PTHREAD_MUTEX_INITIALIZER;
 static pthread_barrier_t start;
 static dstm_thread parts[64];
@@ -84,29 +83,32 @@ static SAFE int run(dstm_thread *me, const struct task *it) {
     return put(me, CUSTOMER, it->customer, count, bill);
 }
 static dstm_code body(dstm_thread *me, void *with) { return (dstm_code)run(me, with); }
+static uint64_t next(uint64_t *seed) { return (*seed = *seed * 6364136223846793005ull + 1442695040888963407ull) >> 33; }
+static double now(clockid_t clock) { struct timespec t; return clock_gettime(clock, &t), t.tv_sec * 1e9 + t.tv_nsec; }
 
+/* Each thread draws all tasks, and does those of its customers. */
 static void *work(void *arg) {
     int me = (int)(intptr_t)arg;
     pthread_barrier_wait(&start);
-    for (volatile int n = 0; n < counts[me]; n++) {
-        struct task *it = &tasks[me][n];
-        if (parts[me].at) { if (dstm_atomically(&parts[me], body, it)) abort(); }
-        else if (locks) { pthread_mutex_lock(&lock); run(NULL, it); pthread_mutex_unlock(&lock); }
-        else __transaction_atomic { run(NULL, it); }
+    for (volatile int n = 0; n < each; n++) { /* gcc jumps back to the begin of a transaction of its own */
+        uint64_t seed = (uint64_t)n * 11400714819323198485ull;
+        struct task it = {(int)(next(&seed) % 100), next(&seed) % CUSTOMERS, {0}};
+        for (int k = 0; k < QUERIES; k++) it.items[k] = next(&seed) % (SORTS * ITEMS);
+        if ((int)(it.customer % (uint64_t)threads) != me) continue;
+        if (parts[me].at) { if (dstm_atomically(&parts[me], body, &it)) abort(); }
+        else if (locks) { pthread_mutex_lock(&lock); run(NULL, &it); pthread_mutex_unlock(&lock); }
+        else __transaction_atomic { run(NULL, &it); }
     }
     return NULL;
 }
-static double now(clockid_t clock) { struct timespec t; return clock_gettime(clock, &t), t.tv_sec * 1e9 + t.tv_nsec; }
-static uint64_t next(uint64_t *seed) { return (*seed = *seed * 6364136223846793005ull + 1442695040888963407ull) >> 33; }
 
 int main(int n, char **args) {
-    int threads = n == 4 ? atoi(args[2]) : 0, each = n == 4 ? atoi(args[3]) : 0;
-    uint64_t seed = 1, sum = 0;
+    uint64_t seed = 2, sum = 0;
     dstm_memory memory = DSTM_ZERO;
     dstm_thread *first = n == 4 && !strcmp(args[1], "tl2") ? &parts[0] : NULL;
     pthread_t running[64];
-    if (n != 4 || threads < 1 || threads > 63) return 2;
-    locks = !strcmp(args[1], "mutex");
+    if (n != 4 || (threads = atoi(args[2])) < 1 || threads > 63) return 2;
+    each = atoi(args[3]), locks = !strcmp(args[1], "mutex");
     if (first && dstm_memory_new(&memory, (uint32_t)threads, DSTM_TL2)) return 3;
     for (int map = 0; first && map < MAPS; map++) if (dstm_map_new(&memory, PLACES, &maps[map])) return 3;
     for (int i = 0; first && i < threads; i++) if (dstm_thread_new(&memory, &parts[i])) return 3;
@@ -114,12 +116,6 @@ int main(int n, char **args) {
     for (uint64_t item = 0; item < SORTS * ITEMS; item++)
         if (put(first, ITEM, item, 1000 * ONE_LEFT, 50 + next(&seed) % 450)) return 3;
     if (first && dstm_commit(first)) return 3;
-    for (int i = 0; i < threads; i++) tasks[i] = malloc(sizeof(struct task) * (size_t)each);
-    for (int i = 0; i < each; i++) {
-        struct task it = {.what = (int)(next(&seed) % 100), .customer = next(&seed) % CUSTOMERS};
-        for (int k = 0; k < QUERIES; k++) it.items[k] = next(&seed) % (SORTS * ITEMS);
-        tasks[it.customer % (uint64_t)threads][counts[it.customer % (uint64_t)threads]++] = it;
-    }
     pthread_barrier_init(&start, NULL, (unsigned)threads + 1);
     for (int i = 0; i < threads; i++) pthread_create(&running[i], NULL, work, (void *)(intptr_t)i);
     double c = now(CLOCK_PROCESS_CPUTIME_ID), w = now(CLOCK_MONOTONIC);
@@ -127,11 +123,10 @@ int main(int n, char **args) {
     for (int i = 0; i < threads; i++) pthread_join(running[i], NULL);
     w = now(CLOCK_MONOTONIC) - w, c = now(CLOCK_PROCESS_CPUTIME_ID) - c;
     if (first && dstm_begin(first)) return 3;
-    for (int map = 0; map < MAPS; map++)
-        for (uint64_t key = 0, low = 0, high = 0; key < CUSTOMERS * MOST; key++, low = high = 0) {
-            if (tell(first, map, key, 0, &low, &high)) return 3;
-            sum = sum * 31 + low * 7 + high;
-        }
+    for (uint64_t key = 0, low = 0, high = 0; key < MAPS * CUSTOMERS * MOST; key++, low = high = 0) {
+        if (tell(first, (int)(key % MAPS), key / MAPS, 0, &low, &high)) return 3;
+        sum = sum * 31 + low * 7 + high;
+    }
     printf("%.0f ns clock, %.0f ns processor, %016llx\n", w / each, c / each, (unsigned long long)sum);
     return 0;
 }

@@ -19,7 +19,7 @@
            if (!code) code = dstm_commit(&me);
        } while (code == DSTM_AGAIN);
 
-   dstm_atomically, at the end, is this loop for a function of the program.
+   dstm_atomically, further down, is this loop for a function of the program. Behind it stand structures made of cells.
 
    Every call answers a code. Each ends, whatever other threads do: none waits for another thread, but dstm_wait and
    dstm_atomically, and these for so many looks only.
