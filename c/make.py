@@ -351,8 +351,8 @@ def sanitized(compiler, kind, room):
 def python(name, says):
     """Runs a test of dstm.py."""
     for engine in ("0", "1"):
-        words, how = [sys.executable, f"{HERE}/python/{name}", engine], {**os.environ, "DSTM_LIB": f"{OUT}/libdstm.so"}
-        said = call(words, env={**how, "PYTHONDONTWRITEBYTECODE": "1"}).strip()
+        how = {**os.environ, "DSTM_LIB": OUT, "PYTHONDONTWRITEBYTECODE": "1"}
+        said = call([sys.executable, f"{HERE}/python/{name}", engine], env=how).strip()
         if said != says:
             raise Failed(f"it says {said}")
 

@@ -6,7 +6,7 @@
             me.atomically(lambda tx: tx.set(counter, tx.get(counter) + 1))
         assert memory.peek(counter) == 1
 
-DSTM_LIB names the library; else it is the one in c/out. By DSTM a part is spent after 65,536 attempts: Failed(SPENT)."""
+DSTM_LIB names the folder of libdstm.so; else it is c/out. By DSTM a part is spent after 65,536 attempts: Failed(2)."""
 import ctypes
 import functools
 import os
@@ -32,7 +32,7 @@ CALLS.update(map_new="hnN", map_get="hnnwNWW", map_put="hnnwwwNWW", map_remove="
 CALLS.update({f"ordered_{name[4:]}": types for name, types in CALLS.items() if name.startswith("map_")})
 CALLS.update({f"ordered_{name}": "hnnNWWW" for name in ("first", "last", "pop_first", "pop_last")})
 CALLS.update(ordered_next_above="hnnwNWWW", ordered_next_below="hnnwNWWW")
-lib = ctypes.CDLL(os.environ.get("DSTM_LIB") or os.path.join(os.path.dirname(__file__), "../out/libdstm.so"))
+lib = ctypes.CDLL(os.path.join(os.environ.get("DSTM_LIB", f"{os.path.dirname(__file__)}/../out"), "libdstm.so"))
 for name, letters in CALLS.items():
     getattr(lib, f"dstmc_{name}").argtypes = [TYPES[it] if it in "nw" else ctypes.POINTER(TYPES[it]) for it in letters]
 words = lambda number: (number & (1 << 64) - 1, number >> 64)
