@@ -2,7 +2,7 @@
 """make.py: proves the library for programs in C, C++, Rust and Python, builds it, and tests it.
 
     python3 c/make.py                   leaves libdstm.a, libdstm.so.1 and dstm.pc in c/out, and runs all tests
-    python3 c/make.py --prefix FOLDER   and installs them, and dstm.h, below that folder
+    python3 c/make.py --prefix FOLDER   and installs them, and the headers, below that folder
     python3 c/make.py --quiet           says only what failed, what was skipped, and how many passed; and leaves out what
                                         another version of a tool may see otherwise: whether clippy has a warning, and
                                         what rustc's thread sanitizer says of a std that is not built with it
@@ -31,13 +31,13 @@ HERE = os.path.dirname(os.path.realpath(__file__))
 ROOT = os.path.dirname(HERE)
 OUT = f"{HERE}/out"
 HEADER = f"{HERE}/include/dstm.h"
-EXPORTS = f"{ROOT}/crates/dstm_c/src/exports.rt"
-TESTS = ("first", "counter", "bank", "queue", "pool", "alternatives", "nested", "parts", "turn", "waits")
-TESTS += ("misuse", "refused")
+EXPORTS = f"{ROOT}/crates/dstm_c/src"
+TESTS = ("first", "counter", "bank", "queue", "pool", "map", "ordered", "set", "alternatives", "nested")
+TESTS += ("parts", "turn", "waits", "misuse", "refused")
 # By which engines a test runs where it takes long; where none is named it runs by all of them.
 BOTH = ("tl2", "polka")
 # The tests that have threads.
-THREADED = ("counter", "bank", "queue", "pool", "turn", "waits")
+THREADED = ("counter", "bank", "queue", "pool", "map", "ordered", "set", "turn", "waits")
 # How a program may wait where it takes no futex, and what says so.
 BELLS = {"with a condition variable": "-DDSTM_BELL_CONDVAR", "with no bell": "-DDSTM_NO_BELL"}
 # What a test is built with besides.
@@ -257,8 +257,10 @@ def declared():
 def exported():
     """Returns the same of each call that the crate exports, as C passes them: an allocator it does not."""
     c = {"u32": "uint32_t", "u64": "uint64_t", "&mut u32": "uint32_t *", "&mut u64": "uint64_t *"}
-    with open(EXPORTS, encoding="utf-8") as it:
-        found = re.findall(r'#\[unsafe\(no_mangle\)\]\s*pub extern "C" fn (\w+)\(([^)]*)\) -> u32', it.read())
+    found = []
+    for file in sorted(os.listdir(EXPORTS)):
+        with open(f"{EXPORTS}/{file}", encoding="utf-8") as it:
+            found += re.findall(r'#\[unsafe\(no_mangle\)\]\s*pub extern "C" fn (\w+)\(([^)]*)\) -> u32', it.read())
     made = {}
     for name, said in found:
         args = [[word.strip() for word in arg.split(":")] for arg in said.split(",") if arg.strip()]
@@ -309,6 +311,14 @@ def build_test(name, compiler, room, *how):
 
 def run_test(name, room):
     call([build_test(name, c_compiler(), room)])
+
+
+def guard(compiler, room):
+    """Runs the test of dstm.hpp."""
+    words = [compiler_for(compiler), "-std=c++17", "-O2", *WARNINGS, f"-I{HERE}/include", f"{HERE}/tests/guard.cc"]
+    call([*words, f"{OUT}/libdstm.a", "-lpthread", "-o", f"{room}/guard"])
+    for engine in BOTH:
+        call([f"{room}/guard", engine])
 
 
 def million(room):
@@ -369,10 +379,12 @@ def sanitized(compiler, kind, room):
             call([program, engine])
 
 
-def python():
+def python(name, says):
+    """Runs a test of dstm.py."""
     for engine in ("0", "1"):
-        said = call([sys.executable, f"{HERE}/python/counter.py", f"{OUT}/libdstm.so", engine]).strip()
-        if said != "4000":
+        how = {**os.environ, "DSTM_LIB": OUT, "PYTHONDONTWRITEBYTECODE": "1"}
+        said = call([sys.executable, f"{HERE}/python/{name}", engine], env=how).strip()
+        if said != says:
             raise Failed(f"it says {said}")
 
 
@@ -439,6 +451,7 @@ def install(prefix):
     for folder in ("include", "lib/pkgconfig"):
         os.makedirs(f"{prefix}/{folder}", exist_ok=True)
     shutil.copyfile(HEADER, f"{prefix}/include/dstm.h")
+    shutil.copyfile(f"{HERE}/include/dstm.hpp", f"{prefix}/include/dstm.hpp")
     shutil.copyfile(f"{OUT}/libdstm.a", f"{prefix}/lib/libdstm.a")
     soname = f"libdstm.so.{NUMBERS[0]}"
     if os.path.isfile(f"{OUT}/{soname}"):
@@ -463,9 +476,11 @@ def by_pkg_config(room):
 
 
 def bench():
-    """Measures transactions beside a mutex and beside gcc's transactional memory, by each of its methods."""
+    """Measures transactions beside a mutex and beside gcc's transactional memory, by each of its methods; and reservations
+    on maps."""
     tool("gcc")
-    print(call([sys.executable, f"{ROOT}/bench/c_library.py", "--library", f"{OUT}/libdstm.a"]), end="", flush=True)
+    for name in ("c_library.py", "reserve.py"):
+        print(call([sys.executable, f"{ROOT}/bench/{name}", "--library", f"{OUT}/libdstm.a"]), end="", flush=True)
 
 
 def main():
@@ -491,6 +506,8 @@ def main():
                 steps.step(name, lambda check=check: check() and None)
             for name in TESTS:
                 steps.step(f"{name}.c", lambda name=name: run_test(name, room))
+            for compiler in ("g++", "clang++"):
+                steps.step(f"guard.cc by {compiler}", lambda compiler=compiler: guard(compiler, room))
             steps.step("counter.c with 4,000,000 transactions", lambda: million(room))
             steps.step("waits.c with 200,000 hand-overs", lambda: hand_overs(room))
             for name, how in BELLS.items():
@@ -502,7 +519,8 @@ def main():
                     name = f"C tests under the {kind} sanitizer of {compiler}"
                     steps.step(name, lambda compiler=compiler, kind=kind: sanitized(compiler, kind, room))
             if steps.step("libdstm.so", shared):
-                steps.step("counter.py", python)
+                steps.step("counter.py", lambda: python("counter.py", "4000"))
+                steps.step("structures.py", lambda: python("structures.py", "done"))
                 steps.step("one bell of a program and its library", lambda: one_bell(room))
                 steps.step("counter.c as installed", lambda: by_pkg_config(room))
             if steps.step("the crate dstm for Rust", lambda: rust(room)):

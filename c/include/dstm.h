@@ -19,7 +19,7 @@
            if (!code) code = dstm_commit(&me);
        } while (code == DSTM_AGAIN);
 
-   dstm_atomically, at the end, is this loop for a function of the program.
+   dstm_atomically, further down, is this loop for a function of the program. Behind it stand structures made of cells.
 
    Every call answers a code. Each ends, whatever other threads do: none waits for another thread, but dstm_wait and
    dstm_atomically, and their like, and these for so many looks or so long only.
@@ -105,6 +105,61 @@ uint32_t dstmc_abort(dstm_thread *thread);
 uint32_t dstmc_look(dstm_thread *thread);
 uint32_t dstmc_mark(dstm_thread *thread, uint64_t *mark);
 uint32_t dstmc_undo_to(dstm_thread *thread, uint64_t mark);
+uint32_t dstmc_queue_new(dstm_memory *memory, uint32_t capacity, uint32_t *first);
+uint32_t dstmc_queue_try_push(dstm_thread *thread, uint32_t first, uint32_t capacity, uint64_t low, uint64_t high,
+                              uint32_t *pushed);
+uint32_t dstmc_queue_try_pop(dstm_thread *thread, uint32_t first, uint32_t capacity, uint32_t *there, uint64_t *low,
+                             uint64_t *high);
+uint32_t dstmc_queue_front(dstm_thread *thread, uint32_t first, uint32_t capacity, uint32_t *there, uint64_t *low,
+                           uint64_t *high);
+uint32_t dstmc_queue_len(dstm_thread *thread, uint32_t first, uint32_t capacity, uint32_t *len);
+uint32_t dstmc_pool_new(dstm_memory *memory, uint32_t cells, uint32_t *first);
+uint32_t dstmc_pool_take(dstm_thread *thread, uint32_t first, uint32_t cells, uint64_t from, uint64_t low, uint64_t high,
+                         uint32_t *there, uint32_t *cell);
+uint32_t dstmc_pool_give(dstm_thread *thread, uint32_t first, uint32_t cells, uint32_t cell, uint32_t *given);
+uint32_t dstmc_map_new(dstm_memory *memory, uint32_t capacity, uint32_t *first);
+uint32_t dstmc_map_get(dstm_thread *thread, uint32_t first, uint32_t capacity, uint64_t key, uint32_t *there,
+                       uint64_t *low, uint64_t *high);
+uint32_t dstmc_map_contains(dstm_thread *thread, uint32_t first, uint32_t capacity, uint64_t key, uint32_t *there);
+uint32_t dstmc_map_put(dstm_thread *thread, uint32_t first, uint32_t capacity, uint64_t key, uint64_t low, uint64_t high,
+                       uint32_t *placed, uint64_t *had_low, uint64_t *had_high);
+uint32_t dstmc_map_remove(dstm_thread *thread, uint32_t first, uint32_t capacity, uint64_t key, uint32_t *there,
+                          uint64_t *low, uint64_t *high);
+uint32_t dstmc_map_len(dstm_thread *thread, uint32_t first, uint32_t capacity, uint32_t *len);
+uint32_t dstmc_ordered_new(dstm_memory *memory, uint32_t capacity, uint32_t *first);
+uint32_t dstmc_ordered_get(dstm_thread *thread, uint32_t first, uint32_t capacity, uint64_t key, uint32_t *there,
+                           uint64_t *low, uint64_t *high);
+uint32_t dstmc_ordered_contains(dstm_thread *thread, uint32_t first, uint32_t capacity, uint64_t key, uint32_t *there);
+uint32_t dstmc_ordered_put(dstm_thread *thread, uint32_t first, uint32_t capacity, uint64_t key, uint64_t low,
+                           uint64_t high, uint32_t *placed, uint64_t *had_low, uint64_t *had_high);
+uint32_t dstmc_ordered_remove(dstm_thread *thread, uint32_t first, uint32_t capacity, uint64_t key, uint32_t *there,
+                              uint64_t *low, uint64_t *high);
+uint32_t dstmc_ordered_len(dstm_thread *thread, uint32_t first, uint32_t capacity, uint32_t *len);
+uint32_t dstmc_ordered_first(dstm_thread *thread, uint32_t first, uint32_t capacity, uint32_t *there, uint64_t *key,
+                             uint64_t *low, uint64_t *high);
+uint32_t dstmc_ordered_last(dstm_thread *thread, uint32_t first, uint32_t capacity, uint32_t *there, uint64_t *key,
+                            uint64_t *low, uint64_t *high);
+uint32_t dstmc_ordered_next_above(dstm_thread *thread, uint32_t first, uint32_t capacity, uint64_t bound,
+                                  uint32_t *there, uint64_t *key, uint64_t *low, uint64_t *high);
+uint32_t dstmc_ordered_next_below(dstm_thread *thread, uint32_t first, uint32_t capacity, uint64_t bound,
+                                  uint32_t *there, uint64_t *key, uint64_t *low, uint64_t *high);
+uint32_t dstmc_ordered_pop_first(dstm_thread *thread, uint32_t first, uint32_t capacity, uint32_t *there, uint64_t *key,
+                                 uint64_t *low, uint64_t *high);
+uint32_t dstmc_ordered_pop_last(dstm_thread *thread, uint32_t first, uint32_t capacity, uint32_t *there, uint64_t *key,
+                                uint64_t *low, uint64_t *high);
+uint32_t dstmc_set_new(dstm_memory *memory, uint32_t capacity, uint32_t *first);
+uint32_t dstmc_set_insert(dstm_thread *thread, uint32_t first, uint32_t capacity, uint64_t key, uint32_t *inserted);
+uint32_t dstmc_set_remove(dstm_thread *thread, uint32_t first, uint32_t capacity, uint64_t key, uint32_t *there);
+uint32_t dstmc_set_contains(dstm_thread *thread, uint32_t first, uint32_t capacity, uint64_t key, uint32_t *there);
+uint32_t dstmc_set_len(dstm_thread *thread, uint32_t first, uint32_t capacity, uint32_t *len);
+uint32_t dstmc_set_first(dstm_thread *thread, uint32_t first, uint32_t capacity, uint32_t *there, uint64_t *key);
+uint32_t dstmc_set_last(dstm_thread *thread, uint32_t first, uint32_t capacity, uint32_t *there, uint64_t *key);
+uint32_t dstmc_set_next_above(dstm_thread *thread, uint32_t first, uint32_t capacity, uint64_t bound, uint32_t *there,
+                              uint64_t *key);
+uint32_t dstmc_set_next_below(dstm_thread *thread, uint32_t first, uint32_t capacity, uint64_t bound, uint32_t *there,
+                              uint64_t *key);
+uint32_t dstmc_set_pop_first(dstm_thread *thread, uint32_t first, uint32_t capacity, uint32_t *there, uint64_t *key);
+uint32_t dstmc_set_pop_last(dstm_thread *thread, uint32_t first, uint32_t capacity, uint32_t *there, uint64_t *key);
 
 #define DSTM_CALL(test, call) ((test) ? (dstm_code)(call) : DSTM_NULL)
 
@@ -453,109 +508,357 @@ static inline dstm_code dstm_view(dstm_thread *me, dstm_body body, void *with) {
     return dstm_make(me, dstm_abort, dstm_wait_each, 10 * (uint64_t)1000000000, body, with);
 }
 
-/* STRUCTURES, made of cells. A call on one is a part of the transaction under way, and copies of its name name
-   the same one. The program sets none of their cells by itself. */
+/* STRUCTURES, made of cells. A program names one by the number of its first cell and by how much it has room for, as
+   the call that made it has told it: copies of that name name the same one, and threads share it as they share a number.
 
-/* A queue of pairs of words: the first one in is the first one out. */
-typedef struct dstm_queue { dstm_cell ends; uint32_t capacity; } dstm_queue;
+   A call on one is a part of the transaction under way, as dstm_get and dstm_set are. Besides what it says it answers
+   AGAIN, IDLE and CLOSED as these do; RANGE, for a name that no memory has room for; FOREIGN, where it comes upon a cell
+   that this memory has not; and MEMORY, behind a dstm_mark alone, where it sets something: a part of it may be set then.
+   Where it answers a code that is not OK nothing is written to what its pointers lead to.
 
-/* A new queue, which has room for so many, at least 1. It takes as many cells and one more; where one of them is not
-   made, those before it stay. RANGE, and what dstm_cell_new answers. */
+   The program sets none of their cells by itself, and takes no name but one that was told: nothing checks that, and what
+   a structure holds is lost else. A call that makes one is as dstm_cell_new is: no thread has a part then. It makes all
+   of its cells, or none. RANGE, where it is to have room for none, or for more than a memory has room for; BUSY, FULL,
+   MEMORY, SPENT, CLOSED. */
+
+/* A queue of pairs of words: the first one in is the first one out. A call on it reads the cell that says where its ends
+   are, and sets it where it puts one in or takes one out: so two such transactions stand in one another's way. */
+typedef struct dstm_queue { dstm_cell first; uint32_t capacity; } dstm_queue;
+
+/* A new queue, which has room for so many, in as many cells and one more. */
 static inline dstm_code dstm_queue_new(dstm_memory *memory, uint32_t capacity, dstm_queue *queue) {
-    dstm_queue made = {0, 0};
-    dstm_cell place = 0;
-    dstm_code code;
-    if (!queue) return DSTM_NULL;
-    if (!capacity) return DSTM_RANGE;
-    code = dstm_cell_new(memory, 0, 0, &made.ends); /* how many were taken out, and how many were put in */
-    for (; !code && made.capacity < capacity; made.capacity++) code = dstm_cell_new(memory, 0, 0, &place);
+    dstm_queue made = {0, capacity};
+    dstm_code code = DSTM_CALL(memory && queue, dstmc_queue_new(memory, capacity, &made.first));
     if (!code) *queue = made;
     return code;
 }
-static inline dstm_cell dstm_queue_place(dstm_queue queue, uint64_t n) {
-    return queue.ends + 1 + (uint32_t)(queue.capacity ? n % queue.capacity : 0);
-}
 /* How many it has. */
 static inline dstm_code dstm_queue_len(dstm_thread *me, dstm_queue queue, uint64_t *length) {
-    uint64_t out = 0, in = 0;
-    dstm_code code = length ? dstm_get(me, queue.ends, &out, &in) : DSTM_NULL;
-    if (!code) *length = in - out;
+    uint32_t count = 0;
+    dstm_code code = DSTM_CALL(me && length, dstmc_queue_len(me, queue.first, queue.capacity, &count));
+    if (!code) *length = count;
     return code;
+}
+/* Puts one at the end, where there is room: pushed is 1 then. It is 0 where it is full: nothing is set then. */
+static inline dstm_code dstm_queue_try_push(dstm_thread *me, dstm_queue queue, uint64_t low, uint64_t high,
+                                            uint32_t *pushed) {
+    return DSTM_CALL(me && pushed, dstmc_queue_try_push(me, queue.first, queue.capacity, low, high, pushed));
 }
 /* Puts one at the end. RETRY, where it is full: nothing is set then. */
 static inline dstm_code dstm_queue_push(dstm_thread *me, dstm_queue queue, uint64_t low, uint64_t high) {
-    uint64_t out = 0, in = 0;
-    dstm_code code = dstm_get(me, queue.ends, &out, &in);
-    if (code) return code;
-    if (in - out >= queue.capacity) return DSTM_RETRY;
-    code = dstm_set(me, dstm_queue_place(queue, in), low, high);
-    return code ? code : dstm_set(me, queue.ends, out, in + 1);
+    uint32_t pushed = 0;
+    dstm_code code = dstm_queue_try_push(me, queue, low, high, &pushed);
+    return code || pushed ? code : DSTM_RETRY;
 }
 static inline dstm_code dstm_queue_push_u64(dstm_thread *me, dstm_queue queue, uint64_t low) {
     return dstm_queue_push(me, queue, low, 0);
 }
 /* Tells the first one. RETRY, where it is empty. */
 static inline dstm_code dstm_queue_front(dstm_thread *me, dstm_queue queue, uint64_t *low, uint64_t *high) {
-    uint64_t out = 0, in = 0;
-    dstm_code code = dstm_get(me, queue.ends, &out, &in);
-    if (code) return code;
-    return in == out ? DSTM_RETRY : dstm_get(me, dstm_queue_place(queue, out), low, high);
+    uint32_t there = 0;
+    dstm_code code = DSTM_CALL(me && low && high && low != high,
+                               dstmc_queue_front(me, queue.first, queue.capacity, &there, low, high));
+    return code || there ? code : DSTM_RETRY;
+}
+/* Takes the first one, if there is one: there is 1 then. It is 0 where it is empty: nothing is set then. */
+static inline dstm_code dstm_queue_try_pop(dstm_thread *me, dstm_queue queue, uint32_t *there, uint64_t *low,
+                                           uint64_t *high) {
+    return DSTM_CALL(me && there && low && high && low != high,
+                     dstmc_queue_try_pop(me, queue.first, queue.capacity, there, low, high));
 }
 /* Takes the first one. RETRY, where it is empty: nothing is set then. */
 static inline dstm_code dstm_queue_pop(dstm_thread *me, dstm_queue queue, uint64_t *low, uint64_t *high) {
-    uint64_t out = 0, in = 0;
-    dstm_code code = dstm_get(me, queue.ends, &out, &in);
-    if (code) return code;
-    if (in == out) return DSTM_RETRY;
-    code = dstm_get(me, dstm_queue_place(queue, out), low, high);
-    return code ? code : dstm_set(me, queue.ends, out + 1, in);
+    uint32_t there = 0;
+    dstm_code code = dstm_queue_try_pop(me, queue, &there, low, high);
+    return code || there ? code : DSTM_RETRY;
 }
 static inline dstm_code dstm_queue_pop_u64(dstm_thread *me, dstm_queue queue, uint64_t *low) {
     uint64_t high = 0;
     return dstm_queue_pop(me, queue, low, &high);
 }
 
-/* A pool of cells, out of which transactions take new cells while threads have parts, and give them back. */
+/* A pool of cells, out of which transactions take new cells while threads have parts, and give them back. Beside each
+   cell stands a mark, which tells whether it is taken. */
 typedef struct dstm_pool { dstm_cell first; uint32_t cells; } dstm_pool;
 
-/* A new pool of so many cells, at least 1. It takes one more; where one of them is not made, those before it stay.
-   RANGE, and what dstm_cell_new answers. */
+/* A new pool of so many cells, none of which is taken, in twice as many new cells. */
 static inline dstm_code dstm_pool_new(dstm_memory *memory, uint32_t cells, dstm_pool *pool) {
-    dstm_pool made = {0, 0};
-    dstm_cell cell = 0;
-    dstm_code code;
-    if (!pool) return DSTM_NULL;
-    if (!cells) return DSTM_RANGE;
-    /* the last one that was given back, each of which names the one before; and how many were ever taken */
-    code = dstm_cell_new(memory, 0, 0, &made.first);
-    for (; !code && made.cells < cells; made.cells++) code = dstm_cell_new(memory, 0, 0, &cell);
+    dstm_pool made = {0, cells};
+    dstm_code code = DSTM_CALL(memory && pool, dstmc_pool_new(memory, cells, &made.first));
     if (!code) *pool = made;
     return code;
 }
-/* Takes a cell, which holds this. It is taken where the transaction takes effect. RETRY, where all are taken: nothing
-   is set then. */
+/* Takes a cell, which holds this: the first one that is not taken, from place from % cells on, in a circle. It is taken
+   where the transaction takes effect. It reads the mark of each one that it passes, so that threads that begin at places
+   far from one another seldom meet. RETRY, where all are taken: nothing is set then. */
+static inline dstm_code dstm_pool_take_from(dstm_thread *me, dstm_pool pool, uint64_t from, uint64_t low, uint64_t high,
+                                            dstm_cell *cell) {
+    uint32_t there = 0;
+    dstm_code code = DSTM_CALL(me && cell, dstmc_pool_take(me, pool.first, pool.cells, from, low, high, &there, cell));
+    return code || there ? code : DSTM_RETRY;
+}
+/* The same from a place on that is computed from the part and from what the cell is to hold. */
 static inline dstm_code dstm_pool_take(dstm_thread *me, dstm_pool pool, uint64_t low, uint64_t high, dstm_cell *cell) {
-    uint64_t back = 0, taken = 0, before = 0, none = 0;
-    dstm_cell found;
-    dstm_code code = cell ? dstm_get(me, pool.first, &back, &taken) : DSTM_NULL;
-    if (code) return code;
-    if (!back && taken >= pool.cells) return DSTM_RETRY;
-    found = pool.first + (uint32_t)(back ? back : taken + 1);
-    if (back) code = dstm_get(me, found, &before, &none);
-    if (!code) code = dstm_set(me, pool.first, before, back ? taken : taken + 1);
-    if (!code) code = dstm_set(me, found, low, high);
-    if (!code) *cell = found;
+    uint64_t mixed = ((uint64_t)(uintptr_t)me + 31 * low + high) * 11400714819323198485u;
+    return dstm_pool_take_from(me, pool, mixed >> 32, low, high, cell);
+}
+/* Gives a cell back. FOREIGN, where it is none of the pool's, or was not taken: nothing is set then. */
+static inline dstm_code dstm_pool_give(dstm_thread *me, dstm_pool pool, dstm_cell cell) {
+    uint32_t given = 0;
+    dstm_code code = DSTM_CALL(me, dstmc_pool_give(me, pool.first, pool.cells, cell, &given));
+    return code || given ? code : DSTM_FOREIGN;
+}
+
+/* How a key was put into a map. Where there is no room the answer is DSTM_OK all the same, so that dstm_atomically does
+   not give the transaction up: the body says what follows. */
+typedef enum dstm_placed {
+    DSTM_NEW = 0,     /* it was not there */
+    DSTM_INSTEAD = 1, /* it was there, and has another value now */
+    DSTM_NO_ROOM = 2  /* it was not there, and there is no room for another one: nothing is set */
+} dstm_placed;
+
+/* A hash map from numbers to pairs of words. A call on it reads the places at which its key is looked for, one or two on
+   the average while at most half of them are taken, and more as the map fills up; and the key's value: so transactions on
+   different keys seldom stand in one another's way. Give it room for twice the keys that it is to hold. */
+typedef struct dstm_map { dstm_cell first; uint32_t capacity; } dstm_map;
+
+/* A new map, which has room for so many keys, in twice as many cells. */
+static inline dstm_code dstm_map_new(dstm_memory *memory, uint32_t capacity, dstm_map *map) {
+    dstm_map made = {0, capacity};
+    dstm_code code = DSTM_CALL(memory && map, dstmc_map_new(memory, capacity, &made.first));
+    if (!code) *map = made;
     return code;
 }
-/* Gives a cell back, which was taken out of this pool and not given back since: that nothing checks. FOREIGN, where the
-   pool has no such cell. */
-static inline dstm_code dstm_pool_give(dstm_thread *me, dstm_pool pool, dstm_cell cell) {
-    uint64_t back = 0, taken = 0;
-    dstm_code code = dstm_get(me, pool.first, &back, &taken);
-    if (code) return code;
-    if (cell <= pool.first || cell - pool.first > pool.cells) return DSTM_FOREIGN;
-    code = dstm_set(me, cell, back, 0);
-    return code ? code : dstm_set(me, pool.first, cell - pool.first, taken);
+/* How many keys it has. It looks at each place, so that each transaction that adds a key or takes one out stands in its
+   way. */
+static inline dstm_code dstm_map_len(dstm_thread *me, dstm_map map, uint64_t *length) {
+    uint32_t count = 0;
+    dstm_code code = DSTM_CALL(me && length, dstmc_map_len(me, map.first, map.capacity, &count));
+    if (!code) *length = count;
+    return code;
+}
+/* Tells the value of a key, if the key is there: there is 1 then. Else it is 0, and low and high are as they were. */
+static inline dstm_code dstm_map_get(dstm_thread *me, dstm_map map, uint64_t key, uint32_t *there, uint64_t *low,
+                                     uint64_t *high) {
+    return DSTM_CALL(me && there && low && high && low != high,
+                     dstmc_map_get(me, map.first, map.capacity, key, there, low, high));
+}
+static inline dstm_code dstm_map_get_u64(dstm_thread *me, dstm_map map, uint64_t key, uint32_t *there, uint64_t *low) {
+    uint64_t high = 0;
+    return dstm_map_get(me, map, key, there, low, &high);
+}
+/* Tells whether a key is there. */
+static inline dstm_code dstm_map_contains(dstm_thread *me, dstm_map map, uint64_t key, uint32_t *there) {
+    return DSTM_CALL(me && there, dstmc_map_contains(me, map.first, map.capacity, key, there));
+}
+/* Gives a key this value, and adds the key where it is not there. It tells how (dstm_placed), and what the key had, which
+   is as it was where placed is not DSTM_INSTEAD. DSTM_NO_ROOM is told only where so many keys are there as it was made
+   for. */
+static inline dstm_code dstm_map_put(dstm_thread *me, dstm_map map, uint64_t key, uint64_t low, uint64_t high,
+                                     uint32_t *placed, uint64_t *had_low, uint64_t *had_high) {
+    return DSTM_CALL(me && placed && had_low && had_high && had_low != had_high,
+                     dstmc_map_put(me, map.first, map.capacity, key, low, high, placed, had_low, had_high));
+}
+static inline dstm_code dstm_map_put_u64(dstm_thread *me, dstm_map map, uint64_t key, uint64_t low, uint32_t *placed) {
+    uint64_t had_low = 0, had_high = 0;
+    return dstm_map_put(me, map, key, low, 0, placed, &had_low, &had_high);
+}
+/* Takes a key out, and tells what it had, if it was there: as dstm_map_get does. */
+static inline dstm_code dstm_map_remove(dstm_thread *me, dstm_map map, uint64_t key, uint32_t *there, uint64_t *low,
+                                        uint64_t *high) {
+    return DSTM_CALL(me && there && low && high && low != high,
+                     dstmc_map_remove(me, map.first, map.capacity, key, there, low, high));
+}
+static inline dstm_code dstm_map_remove_u64(dstm_thread *me, dstm_map map, uint64_t key, uint32_t *there, uint64_t *low) {
+    uint64_t high = 0;
+    return dstm_map_remove(me, map, key, there, low, &high);
+}
+
+/* A map that also tells its keys by their order. A key is looked up as in a dstm_map. The order is a tree over the keys'
+   bits beside it, in which at most 64 forks stand on a way, no more than the keys have bits, and for keys that come by
+   chance about as many as their count has: a call that asks for a key by its order, that adds one or that takes one out
+   reads those on its way, and one that adds or takes out sets one of them. Two such transactions stand in one another's
+   way where one sets a fork on the way of the other. */
+typedef struct dstm_ordered { dstm_cell first; uint32_t capacity; } dstm_ordered;
+
+/* A key with its value. */
+typedef struct dstm_entry { uint64_t key, low, high; } dstm_entry;
+
+/* A new one, which has room for so many keys, in three times as many cells and one more. */
+static inline dstm_code dstm_ordered_new(dstm_memory *memory, uint32_t capacity, dstm_ordered *map) {
+    dstm_ordered made = {0, capacity};
+    dstm_code code = DSTM_CALL(memory && map, dstmc_ordered_new(memory, capacity, &made.first));
+    if (!code) *map = made;
+    return code;
+}
+/* These do what those of a dstm_map do. */
+static inline dstm_code dstm_ordered_len(dstm_thread *me, dstm_ordered map, uint64_t *length) {
+    uint32_t count = 0;
+    dstm_code code = DSTM_CALL(me && length, dstmc_ordered_len(me, map.first, map.capacity, &count));
+    if (!code) *length = count;
+    return code;
+}
+static inline dstm_code dstm_ordered_get(dstm_thread *me, dstm_ordered map, uint64_t key, uint32_t *there, uint64_t *low,
+                                         uint64_t *high) {
+    return DSTM_CALL(me && there && low && high && low != high,
+                     dstmc_ordered_get(me, map.first, map.capacity, key, there, low, high));
+}
+static inline dstm_code dstm_ordered_get_u64(dstm_thread *me, dstm_ordered map, uint64_t key, uint32_t *there,
+                                             uint64_t *low) {
+    uint64_t high = 0;
+    return dstm_ordered_get(me, map, key, there, low, &high);
+}
+static inline dstm_code dstm_ordered_contains(dstm_thread *me, dstm_ordered map, uint64_t key, uint32_t *there) {
+    return DSTM_CALL(me && there, dstmc_ordered_contains(me, map.first, map.capacity, key, there));
+}
+static inline dstm_code dstm_ordered_put(dstm_thread *me, dstm_ordered map, uint64_t key, uint64_t low, uint64_t high,
+                                         uint32_t *placed, uint64_t *had_low, uint64_t *had_high) {
+    return DSTM_CALL(me && placed && had_low && had_high && had_low != had_high,
+                     dstmc_ordered_put(me, map.first, map.capacity, key, low, high, placed, had_low, had_high));
+}
+static inline dstm_code dstm_ordered_put_u64(dstm_thread *me, dstm_ordered map, uint64_t key, uint64_t low,
+                                             uint32_t *placed) {
+    uint64_t had_low = 0, had_high = 0;
+    return dstm_ordered_put(me, map, key, low, 0, placed, &had_low, &had_high);
+}
+static inline dstm_code dstm_ordered_remove(dstm_thread *me, dstm_ordered map, uint64_t key, uint32_t *there,
+                                            uint64_t *low, uint64_t *high) {
+    return DSTM_CALL(me && there && low && high && low != high,
+                     dstmc_ordered_remove(me, map.first, map.capacity, key, there, low, high));
+}
+static inline dstm_code dstm_ordered_remove_u64(dstm_thread *me, dstm_ordered map, uint64_t key, uint32_t *there,
+                                                uint64_t *low) {
+    uint64_t high = 0;
+    return dstm_ordered_remove(me, map, key, there, low, &high);
+}
+/* Tells the first key with its value, if there is one: there is 1 then. Else it is 0, and the others are as they were. */
+static inline dstm_code dstm_ordered_first(dstm_thread *me, dstm_ordered map, uint32_t *there,
+                                           uint64_t *key, uint64_t *low, uint64_t *high) {
+    return DSTM_CALL(me && there && key && low && high && key != low && key != high && low != high,
+                     dstmc_ordered_first(me, map.first, map.capacity, there, key, low, high));
+}
+/* The same of the last key. */
+static inline dstm_code dstm_ordered_last(dstm_thread *me, dstm_ordered map, uint32_t *there,
+                                          uint64_t *key, uint64_t *low, uint64_t *high) {
+    return DSTM_CALL(me && there && key && low && high && key != low && key != high && low != high,
+                     dstmc_ordered_last(me, map.first, map.capacity, there, key, low, high));
+}
+/* The same of the first key above a bound, which need not be there. */
+static inline dstm_code dstm_ordered_next_above(dstm_thread *me, dstm_ordered map, uint64_t bound, uint32_t *there,
+                                                uint64_t *key, uint64_t *low, uint64_t *high) {
+    return DSTM_CALL(me && there && key && low && high && key != low && key != high && low != high,
+                     dstmc_ordered_next_above(me, map.first, map.capacity, bound, there, key, low, high));
+}
+/* The same of the last key below a bound, which need not be there. */
+static inline dstm_code dstm_ordered_next_below(dstm_thread *me, dstm_ordered map, uint64_t bound, uint32_t *there,
+                                                uint64_t *key, uint64_t *low, uint64_t *high) {
+    return DSTM_CALL(me && there && key && low && high && key != low && key != high && low != high,
+                     dstmc_ordered_next_below(me, map.first, map.capacity, bound, there, key, low, high));
+}
+/* Takes the first key out, and tells it with its value, if there is one: as dstm_ordered_first does. */
+static inline dstm_code dstm_ordered_pop_first(dstm_thread *me, dstm_ordered map, uint32_t *there,
+                                               uint64_t *key, uint64_t *low, uint64_t *high) {
+    return DSTM_CALL(me && there && key && low && high && key != low && key != high && low != high,
+                     dstmc_ordered_pop_first(me, map.first, map.capacity, there, key, low, high));
+}
+/* The same of the last key. */
+static inline dstm_code dstm_ordered_pop_last(dstm_thread *me, dstm_ordered map, uint32_t *there,
+                                              uint64_t *key, uint64_t *low, uint64_t *high) {
+    return DSTM_CALL(me && there && key && low && high && key != low && key != high && low != high,
+                     dstmc_ordered_pop_last(me, map.first, map.capacity, there, key, low, high));
+}
+/* Tells the keys that are not below from, with their values, in their order: so many at most, and how many there were.
+   To go on, ask again from behind the last one. It costs what dstm_ordered_next_above costs for each. Where it answers a
+   code that is not OK some entries may be written, and count is as it was. */
+static inline dstm_code dstm_ordered_scan(dstm_thread *me, dstm_ordered map, uint64_t from, uint32_t most,
+                                          dstm_entry *entries, uint32_t *count) {
+    uint32_t n = 0, there = 1;
+    if (!entries || !count) return DSTM_NULL;
+    while (n < most && there) {
+        dstm_entry *it = &entries[n];
+        dstm_code code = from ? dstm_ordered_next_above(me, map, from - 1, &there, &it->key, &it->low, &it->high)
+                              : dstm_ordered_first(me, map, &there, &it->key, &it->low, &it->high);
+        if (code) return code;
+        if (!there) break;
+        n++;
+        if (it->key == UINT64_MAX) break;
+        from = it->key + 1;
+    }
+    *count = n;
+    return DSTM_OK;
+}
+
+/* A set of numbers that tells them by their order: a dstm_ordered without values, of which all holds that is said there.
+   (dstm_set is the call that puts a value into a cell.) */
+typedef struct dstm_ordered_set { dstm_cell first; uint32_t capacity; } dstm_ordered_set;
+
+/* A new set, which has room for so many keys, in three times as many cells and one more. */
+static inline dstm_code dstm_set_new(dstm_memory *memory, uint32_t capacity, dstm_ordered_set *set) {
+    dstm_ordered_set made = {0, capacity};
+    dstm_code code = DSTM_CALL(memory && set, dstmc_set_new(memory, capacity, &made.first));
+    if (!code) *set = made;
+    return code;
+}
+/* How many keys it has: as dstm_map_len. */
+static inline dstm_code dstm_set_len(dstm_thread *me, dstm_ordered_set set, uint64_t *length) {
+    uint32_t count = 0;
+    dstm_code code = DSTM_CALL(me && length, dstmc_set_len(me, set.first, set.capacity, &count));
+    if (!code) *length = count;
+    return code;
+}
+/* Tells whether a key is in it. */
+static inline dstm_code dstm_set_contains(dstm_thread *me, dstm_ordered_set set, uint64_t key, uint32_t *there) {
+    return DSTM_CALL(me && there, dstmc_set_contains(me, set.first, set.capacity, key, there));
+}
+/* Inserts a key, and tells how: DSTM_NEW; DSTM_INSTEAD, where it was there, or DSTM_NO_ROOM: then nothing is set. */
+static inline dstm_code dstm_set_insert(dstm_thread *me, dstm_ordered_set set, uint64_t key, uint32_t *inserted) {
+    return DSTM_CALL(me && inserted, dstmc_set_insert(me, set.first, set.capacity, key, inserted));
+}
+/* Takes a key out, and tells whether it was there. */
+static inline dstm_code dstm_set_remove(dstm_thread *me, dstm_ordered_set set, uint64_t key, uint32_t *there) {
+    return DSTM_CALL(me && there, dstmc_set_remove(me, set.first, set.capacity, key, there));
+}
+/* Tells the first key, if there is one: there is 1 then. Else it is 0, and key is as it was. */
+static inline dstm_code dstm_set_first(dstm_thread *me, dstm_ordered_set set, uint32_t *there, uint64_t *key) {
+    return DSTM_CALL(me && there && key, dstmc_set_first(me, set.first, set.capacity, there, key));
+}
+/* The same of the last key. */
+static inline dstm_code dstm_set_last(dstm_thread *me, dstm_ordered_set set, uint32_t *there, uint64_t *key) {
+    return DSTM_CALL(me && there && key, dstmc_set_last(me, set.first, set.capacity, there, key));
+}
+/* The same of the first key above a bound, which need not be there. */
+static inline dstm_code dstm_set_next_above(dstm_thread *me, dstm_ordered_set set, uint64_t bound, uint32_t *there,
+                                            uint64_t *key) {
+    return DSTM_CALL(me && there && key, dstmc_set_next_above(me, set.first, set.capacity, bound, there, key));
+}
+/* The same of the last key below a bound, which need not be there. */
+static inline dstm_code dstm_set_next_below(dstm_thread *me, dstm_ordered_set set, uint64_t bound, uint32_t *there,
+                                            uint64_t *key) {
+    return DSTM_CALL(me && there && key, dstmc_set_next_below(me, set.first, set.capacity, bound, there, key));
+}
+/* Takes the first key out, and tells it, if there is one: as dstm_set_first does. */
+static inline dstm_code dstm_set_pop_first(dstm_thread *me, dstm_ordered_set set, uint32_t *there, uint64_t *key) {
+    return DSTM_CALL(me && there && key, dstmc_set_pop_first(me, set.first, set.capacity, there, key));
+}
+/* The same of the last key. */
+static inline dstm_code dstm_set_pop_last(dstm_thread *me, dstm_ordered_set set, uint32_t *there, uint64_t *key) {
+    return DSTM_CALL(me && there && key, dstmc_set_pop_last(me, set.first, set.capacity, there, key));
+}
+/* Tells the keys that are not below from: as dstm_ordered_scan does. */
+static inline dstm_code dstm_set_scan(dstm_thread *me, dstm_ordered_set set, uint64_t from, uint32_t most,
+                                      uint64_t *keys, uint32_t *count) {
+    uint32_t n = 0, there = 1;
+    if (!keys || !count) return DSTM_NULL;
+    while (n < most && there) {
+        dstm_code code = from ? dstm_set_next_above(me, set, from - 1, &there, &keys[n])
+                              : dstm_set_first(me, set, &there, &keys[n]);
+        if (code) return code;
+        if (!there) break;
+        from = keys[n++];
+        if (from++ == UINT64_MAX) break;
+    }
+    *count = n;
+    return DSTM_OK;
 }
 
 #ifdef __cplusplus

@@ -31,6 +31,20 @@ static int for_engines(int count, char **words, void (*test)(dstm_engine engine)
     return 0;
 }
 
+/* Numbers that look as if they came by chance, the same ones each time. */
+static inline uint32_t chance(uint64_t *seed) {
+    *seed = *seed * 6364136223846793005u + 1442695040888963407u;
+    return (uint32_t)(*seed >> 33);
+}
+
+/* Calls a body until something has changed, where nothing has for long, as on a machine that does much else. */
+static inline void wait_for(dstm_thread *me, dstm_body body, void *with) {
+    dstm_code code;
+    do code = dstm_atomically(me, body, with);
+    while (code == DSTM_RETRY);
+    IS(DSTM_OK, code);
+}
+
 /* A thread for each part. */
 static inline void run_all(int threads, dstm_thread *parts, void *(*const works[])(void *)) {
     pthread_t running[64];

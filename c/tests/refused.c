@@ -4,11 +4,14 @@
 #include "common.h"
 
 #define CELLS 5
+#define KEYS 3
 static dstm_memory memory = DSTM_ZERO;
 static dstm_thread me = DSTM_ZERO, other = DSTM_ZERO;
 static dstm_cell cells[CELLS];
 static uint64_t now[CELLS]; /* what they hold, as the transaction under way sees them */
 static int made;            /* so many cells */
+static int before;          /* and so many of the map before them */
+static dstm_map map;
 static enum { NO_PARTS, PARTS, TRANSACTION } is;
 static long calls, refused_at, refused, told, blocks;
 static int goes_on, checks;
@@ -81,12 +84,13 @@ static void put(int cell, uint64_t n) {
 
 static void make_cell(uint64_t n) {
     DO(dstm_cell_new(&memory, n, n + 1, &cells[made]));
-    IS(made, cells[made]);
+    IS(before + made, cells[made]);
     now[made++] = n;
 }
 
 static void transactions(uint64_t n) {
-    uint64_t mark = 0, had;
+    uint64_t mark = 0, had, length = 0;
+    uint32_t placed = 9;
     dstm_code code;
     int i;
     IS(DSTM_OK, dstm_begin(&me));
@@ -96,10 +100,16 @@ static void transactions(uint64_t n) {
     IS(DSTM_OK, dstm_mark(&me, &mark));
     had = now[2];
     for (i = 0; i < 20; i++) put(2, n + 20 + (uint64_t)i);
+    for (i = 0; i < KEYS; i++) DO(dstm_map_put_u64(&me, map, n + (uint64_t)i, n, &placed));
+    IS(DSTM_NEW, placed);
     check();
     IS(DSTM_OK, dstm_undo_to(&me, mark));
     now[2] = had;
     check();
+    IS(DSTM_OK, dstm_map_len(&me, map, &length));
+    IS(n / 1000 - 1, length);
+    DO(dstm_map_put_u64(&me, map, n, n, &placed));
+    IS(DSTM_NEW, placed);
     IS(DSTM_OK, dstm_commit(&me));
     is = PARTS;
     check();
@@ -134,6 +144,8 @@ static void all(dstm_engine engine) {
     made = 0;
     is = NO_PARTS;
     DO(dstm_memory_new(&memory, 2, engine));
+    DO(dstm_map_new(&memory, KEYS + 1, &map));
+    before = 2 * (KEYS + 1);
     make_cell(100);
     make_cell(200);
     make_cell(300);

@@ -102,7 +102,7 @@ use core::ptr::null_mut;
 use core::sync::atomic::{AtomicU64, Ordering};
 use core::time::Duration;
 use lock::Lock;
-pub use structures::{Pool, Queue};
+pub use structures::{HashMap, Inserted, Keys, OrderedMap, OrderedSet, Placed, Pool, Queue, Scan};
 
 // What `dstm.h` calls dstm_memory and dstm_thread.
 #[repr(C)]
@@ -150,13 +150,14 @@ const ASKS: u32 = 1024;
 pub enum Error {
     /// By DSTM: the attempts of the part are used up, and there is no other part to take.
     Spent,
-    /// The cell is one of another memory.
+    /// The cell, or the structure, is one of another memory; or a cell is given back to a pool out of which it was not taken.
     Foreign,
     /// The memory has as many cells, or as many parts, as it can have.
     Full,
     /// There is not enough memory.
     Memory,
-    /// A number is out of its range: there have to be from 1 to 63 threads, and at least 1 place in a queue or a pool.
+    /// A number is out of its range: there have to be from 1 to 63 threads, and a structure has to have room for 1 at least,
+    /// and for no more than a memory has room for.
     Range,
     /// The closure retried, and nothing that it has read has changed for long, or it has waited for as long as it may.
     Idle,
@@ -410,6 +411,7 @@ impl Memory {
         done(unsafe { dstmc_thread_new(&mut self.handle.lock(), &mut handle) })?;
         Ok(Thread {
             memory: self,
+            seed: handle.at as u64,
             handle,
             alone: PhantomData,
         })
@@ -426,6 +428,7 @@ impl Drop for Memory {
 pub struct Thread<'m> {
     memory: &'m Memory,
     handle: Handle,
+    seed: u64,
     alone: PhantomData<Plain<()>>,
 }
 
@@ -528,6 +531,12 @@ impl<'m> Thread<'m> {
             code = unsafe { dstmc_begin(&mut self.handle) };
         }
         done(code)
+    }
+
+    // A number that looks as if it came by chance.
+    fn chance(&mut self) -> u64 {
+        self.seed = self.seed.wrapping_mul(6_364_136_223_846_793_005).wrapping_add(1_442_695_040_888_963_407);
+        self.seed >> 33
     }
 
     // Takes another part in the place of one that is spent.

@@ -1,4 +1,5 @@
-use dstm::{Cell, Engine, Error, Memory, Stop, Thread, Tx};
+use dstm::{Cell, Engine, Error, HashMap, Inserted, Memory, Placed, Stop, Thread, Tx};
+use std::collections::{BTreeMap, BTreeSet, HashMap as Plain};
 use std::panic::{catch_unwind, AssertUnwindSafe};
 use std::thread::{scope, ScopedJoinHandle};
 
@@ -350,6 +351,7 @@ fn no_cell_of_a_pool_is_in_two_places_or_lost() {
                 assert_eq!(me.atomically(|tx| tx.get(*cell)), Ok((n, n + 1)));
                 me.atomically(|tx| pool.give(tx, *cell)).unwrap();
             }
+            assert_eq!(me.atomically(|tx| pool.give(tx, cell)), Err(Error::Foreign));
         }
         let (cells, slots) = (&cells[..], &slots[..]);
         scope(|s| {
@@ -379,6 +381,217 @@ fn no_cell_of_a_pool_is_in_two_places_or_lost() {
         }
         assert!(me.atomically(|tx| pool.try_take(tx, (0, 0))).unwrap().is_none());
     }
+}
+
+// Numbers that look as if they came by chance, the same ones each time.
+struct Chance(u64);
+
+impl Chance {
+    fn next(&mut self) -> u64 {
+        self.0 = self.0.wrapping_mul(6_364_136_223_846_793_005).wrapping_add(1_442_695_040_888_963_407);
+        self.0 >> 33
+    }
+
+    fn below(&mut self, most: u64) -> u64 {
+        self.next() % most
+    }
+}
+
+#[test]
+fn a_map_does_what_a_plain_one_does() {
+    const ROOM: usize = 12;
+    for engine in [Engine::Tl2, Engine::Polka] {
+        let mut memory = Memory::with_engine(1, engine).unwrap();
+        assert_eq!(memory.map::<u64>(0).err(), Some(Error::Range));
+        let map = memory.map::<Option<u64>>(ROOM as u32).unwrap();
+        let mut me = memory.thread().unwrap();
+        let (mut plain, mut chance) = (Plain::new(), Chance(1));
+        for _ in 0..2_000 {
+            let mut trial = plain.clone();
+            let is_given_up = chance.below(4) == 0;
+            let ended = me.atomically(|tx| {
+                for _ in 0..chance.below(12) {
+                    let (key, value) = (chance.below(20) << 30, Some(chance.next()));
+                    assert_eq!(map.contains(tx, key)?, trial.contains_key(&key));
+                    match chance.below(4) {
+                        0 => assert_eq!(map.remove(tx, key)?, trial.remove(&key)),
+                        1 => assert_eq!(map.get(tx, key)?, trial.get(&key).copied()),
+                        _ if trial.len() == ROOM && !trial.contains_key(&key) => {
+                            assert_eq!(map.put(tx, key, value)?, Placed::Full);
+                        }
+                        _ => {
+                            let placed = trial.insert(key, value).map_or(Placed::New, Placed::Instead);
+                            assert_eq!(map.put(tx, key, value)?, placed);
+                        }
+                    }
+                }
+                assert_eq!(map.len(tx)?, trial.len() as u64);
+                if is_given_up { Err(Stop::Failed(Error::Range)) } else { Ok(()) }
+            });
+            if ended.is_ok() {
+                plain = trial;
+            }
+        }
+    }
+}
+
+// Moves a key to the map in which it is not.
+fn move_over(tx: &mut Tx<'_, '_>, maps: [HashMap<u64>; 2], key: u64) -> Result<(), Stop> {
+    let at = usize::from(maps[0].contains(tx, key)?);
+    let value = maps[1 - at].remove(tx, key)?.unwrap();
+    assert_eq!(maps[at].put(tx, key, value)?, Placed::New);
+    Ok(())
+}
+
+#[test]
+fn each_key_is_in_one_of_two_maps() {
+    const KEYS: u64 = 10;
+    for engine in ENGINES {
+        let mut memory = Memory::with_engine(4, engine).unwrap();
+        let maps = [memory.map(2 * KEYS as u32).unwrap(), memory.map(2 * KEYS as u32).unwrap()];
+        let mut first = memory.thread().unwrap();
+        for key in 0..KEYS {
+            first.atomically(|tx| maps[1].put(tx, key, 7 * key)).unwrap();
+        }
+        scope(|s| {
+            let mover = |seed| {
+                let mut me = memory.thread().unwrap();
+                s.spawn(move || {
+                    let mut chance = Chance(seed);
+                    for _ in 0..500 {
+                        let key = chance.below(KEYS);
+                        me.atomically(|tx| move_over(tx, maps, key)).unwrap();
+                    }
+                })
+            };
+            let movers = (1..4).map(mover).collect();
+            for _ in 0..50 {
+                let there = first.atomically(|tx| {
+                    let mut sum = 0;
+                    for key in 0..KEYS {
+                        let found = (maps[0].get(tx, key)?, maps[1].get(tx, key)?);
+                        sum += found.0.xor(found.1).unwrap();
+                    }
+                    Ok(sum)
+                });
+                assert_eq!(there, Ok(7 * (KEYS - 1) * KEYS / 2));
+            }
+            joined(movers)
+        });
+    }
+}
+
+#[test]
+fn an_ordered_map_does_what_a_plain_one_does() {
+    const ROOM: usize = 12;
+    for engine in [Engine::Tl2, Engine::Polka] {
+        let mut memory = Memory::with_engine(1, engine).unwrap();
+        let map = memory.ordered_map::<i64>(ROOM as u32).unwrap();
+        let mut me = memory.thread().unwrap();
+        let (mut plain, mut chance) = (BTreeMap::new(), Chance(1));
+        for _ in 0..2_000 {
+            let mut trial: BTreeMap<u64, i64> = plain.clone();
+            let is_given_up = chance.below(4) == 0;
+            let ended = me.atomically(|tx| {
+                for _ in 0..chance.below(12) {
+                    let (key, value) = (u64::MAX >> (3 * chance.below(21)), -(chance.next() as i64));
+                    let pair = |(key, value): (&u64, &i64)| (*key, *value);
+                    match chance.below(12) {
+                        0 => assert_eq!(map.remove(tx, key)?, trial.remove(&key)),
+                        1 => assert_eq!(map.get(tx, key)?, trial.get(&key).copied()),
+                        2 => assert_eq!(map.contains(tx, key)?, trial.contains_key(&key)),
+                        3 => assert_eq!(map.first(tx)?, trial.iter().next().map(pair)),
+                        4 => assert_eq!(map.last(tx)?, trial.iter().next_back().map(pair)),
+                        5 => assert_eq!(map.pop_first(tx)?, trial.pop_first()),
+                        6 => assert_eq!(map.pop_last(tx)?, trial.pop_last()),
+                        7 => assert_eq!(map.next_below(tx, key)?, trial.range(..key).next_back().map(pair)),
+                        8 => {
+                            let next = trial.range(key..).find(|it| *it.0 > key);
+                            assert_eq!(map.next_above(tx, key)?, next.map(pair));
+                        }
+                        _ if trial.len() == ROOM && !trial.contains_key(&key) => {
+                            assert_eq!(map.put(tx, key, value)?, Placed::Full);
+                        }
+                        _ => {
+                            let placed = trial.insert(key, value).map_or(Placed::New, Placed::Instead);
+                            assert_eq!(map.put(tx, key, value)?, placed);
+                        }
+                    }
+                }
+                assert_eq!(map.len(tx)?, trial.len() as u64);
+                let from = u64::MAX >> chance.below(64);
+                let found: Vec<(u64, i64)> = map.scan(tx, from).collect::<Result<_, _>>()?;
+                assert!(found.iter().copied().eq(trial.range(from..).map(|it| (*it.0, *it.1))));
+                if is_given_up { Err(Stop::Failed(Error::Range)) } else { Ok(()) }
+            });
+            if ended.is_ok() {
+                plain = trial;
+            }
+        }
+    }
+}
+
+#[test]
+fn a_set_does_what_a_plain_one_does() {
+    const ROOM: usize = 12;
+    for engine in [Engine::Tl2, Engine::Polka] {
+        let mut memory = Memory::with_engine(1, engine).unwrap();
+        let set = memory.ordered_set(ROOM as u32).unwrap();
+        let mut me = memory.thread().unwrap();
+        let (mut plain, mut chance) = (BTreeSet::new(), Chance(1));
+        for _ in 0..2_000 {
+            let mut trial: BTreeSet<u64> = plain.clone();
+            let is_given_up = chance.below(4) == 0;
+            let ended = me.atomically(|tx| {
+                for _ in 0..chance.below(12) {
+                    let key = u64::MAX >> (3 * chance.below(21));
+                    match chance.below(12) {
+                        0 => assert_eq!(set.remove(tx, key)?, trial.remove(&key)),
+                        1 => assert_eq!(set.contains(tx, key)?, trial.contains(&key)),
+                        2 => assert_eq!(set.first(tx)?, trial.first().copied()),
+                        3 => assert_eq!(set.last(tx)?, trial.last().copied()),
+                        4 => assert_eq!(set.pop_first(tx)?, trial.pop_first()),
+                        5 => assert_eq!(set.pop_last(tx)?, trial.pop_last()),
+                        6 => assert_eq!(set.next_below(tx, key)?, trial.range(..key).next_back().copied()),
+                        7 => {
+                            let next = trial.range(key..).find(|it| **it > key);
+                            assert_eq!(set.next_above(tx, key)?, next.copied());
+                        }
+                        _ => {
+                            let inserted = match trial.len() {
+                                _ if trial.contains(&key) => Inserted::There,
+                                ROOM => Inserted::Full,
+                                _ => Inserted::New,
+                            };
+                            assert_eq!(set.insert(tx, key)?, inserted);
+                            if inserted == Inserted::New {
+                                trial.insert(key);
+                            }
+                        }
+                    }
+                }
+                assert_eq!(set.len(tx)?, trial.len() as u64);
+                let from = u64::MAX >> chance.below(64);
+                let found: Vec<u64> = set.scan(tx, from).collect::<Result<_, _>>()?;
+                assert!(found.iter().eq(trial.range(from..)));
+                if is_given_up { Err(Stop::Failed(Error::Range)) } else { Ok(()) }
+            });
+            if ended.is_ok() {
+                plain = trial;
+            }
+        }
+    }
+}
+
+#[test]
+fn a_structure_of_another_memory_is_told() {
+    let mut memory = Memory::new(1).unwrap();
+    let mut other = Memory::new(1).unwrap();
+    let (map, queue) = (other.map::<u64>(2).unwrap(), other.queue::<u64>(2).unwrap());
+    memory.map::<u64>(9).unwrap();
+    let mut me = memory.thread().unwrap();
+    assert_eq!(me.atomically(|tx| map.put(tx, 1, 1)), Err(Error::Foreign));
+    assert_eq!(me.atomically(|tx| queue.try_pop(tx)), Err(Error::Foreign));
 }
 
 #[test]
