@@ -12,7 +12,7 @@ from scale import THREADS, numbers, reader_of, times_of
 
 HERE = Path(__file__).resolve().parent
 PEERS = HERE / "peers"
-LOOKS = "90,98,100"
+LOOKS = "90,100,move"
 CC = ["-O2", "-march=x86-64-v2", "-pthread"]
 CXX = ["g++", "-std=c++17", *CC, PEERS / "maps.cc"]
 C = ["gcc", "-std=gnu11", *CC]
@@ -94,7 +94,7 @@ def runs_of(given, made, rows, looks):
     """Of each map, load and number of threads what tells the nanoseconds of a transaction."""
     for look in looks:
         for threads in THREADS:
-            for name, (kind, engine) in OURS.items() if look != "move" else ():
+            for name, (kind, engine) in OURS.items():
                 words = [given.bench, "map", engine, kind, look, threads]
                 yield (name, look, threads), lambda words=words: numbers(words)
             for name, (_, program, first) in rows.items():

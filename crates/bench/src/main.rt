@@ -8,6 +8,7 @@ mod engine;
 mod map;
 mod scale;
 mod spans;
+mod starve;
 mod words;
 
 use std::env;
@@ -26,14 +27,18 @@ fn main(rt: HostRuntime) -> anyhow::Result<()> {
         [_, part, by, kind, looks, threads] => {
             part.as_str() == "map" && map::tell(&rt, alloc, by, kind, looks, threads)?
         }
+        [_, part, by, what, how, count, scans] => {
+            part.as_str() == "starve" && starve::tell(&rt, alloc, by, what, how, count, scans)?
+        }
         _ => false,
     };
     if !told {
         println!(rt; "usage: bench engine MANAGER")?;
         println!(rt; "       bench cells")?;
         println!(rt; "       bench cells tl2|MANAGER disjoint|one|bank|reads|nothing 1|2|4")?;
-        println!(rt; "       bench map tl2|MANAGER hash|ordered 90|98|100 1|2|4")?;
+        println!(rt; "       bench map tl2|MANAGER hash|ordered 90|98|100|move 1|2|4")?;
         println!(rt; "       bench scale tl2|MANAGER LOAD 1|2|4")?;
+        println!(rt; "       bench starve tl2|MANAGER cells|map view|atomically COUNT SCANS")?;
         println!(rt; "managers: polite karma polka greedy")?;
         println!(rt; "loads: readers256 readers4096 tree90 tree98 tree100 lists reserve own")?;
     }
