@@ -486,13 +486,15 @@ static inline dstm_code dstm_make(dstm_thread *me, dstm_ending end, dstm_waiting
     }
     return code;
 }
+/* So many nanoseconds a transaction waits until something changes. */
+#define DSTM_PATIENCE (10 * (uint64_t)1000000000)
 /* Makes a transaction of a body: calls it until it has taken effect. Where the body answers DSTM_RETRY, it is called
    again once something that it has read may have changed; where nothing does for ten seconds, that is the answer. Any
    other code of the body gives the transaction up, and is the answer; but for AGAIN where this transaction is not lost:
    ELSEWHERE. After each attempt that was lost the thread gives way, for longer each time, 1 ms at most; after 8 of them
    it goes first (dstm_turn). */
 static inline dstm_code dstm_atomically(dstm_thread *me, dstm_body body, void *with) {
-    return dstm_make(me, dstm_commit, dstm_wait_each, 10 * (uint64_t)1000000000, body, with);
+    return dstm_make(me, dstm_commit, dstm_wait_each, DSTM_PATIENCE, body, with);
 }
 /* The same, and it waits for so many nanoseconds in all. With 0 it does not wait. */
 static inline dstm_code dstm_atomically_within(dstm_thread *me, uint64_t nanoseconds, dstm_body body, void *with) {
@@ -505,7 +507,7 @@ static inline dstm_code dstm_atomically_for(dstm_thread *me, uint32_t looks, dst
 /* Looks at the memory by a body, as dstm_atomically calls it: what the last call was told is of one moment. Nothing that
    it has set takes effect, no number is drawn, and nobody is woken, so that views of several threads do not meet. */
 static inline dstm_code dstm_view(dstm_thread *me, dstm_body body, void *with) {
-    return dstm_make(me, dstm_abort, dstm_wait_each, 10 * (uint64_t)1000000000, body, with);
+    return dstm_make(me, dstm_abort, dstm_wait_each, DSTM_PATIENCE, body, with);
 }
 
 /* STRUCTURES, made of cells. A program names one by the number of its first cell and by how much it has room for, as
@@ -772,9 +774,9 @@ static inline dstm_code dstm_ordered_pop_last(dstm_thread *me, dstm_ordered map,
    code that is not OK some entries may be written, and count is as it was. */
 static inline dstm_code dstm_ordered_scan(dstm_thread *me, dstm_ordered map, uint64_t from, uint32_t most,
                                           dstm_entry *entries, uint32_t *count) {
-    uint32_t n = 0, there = 1;
+    uint32_t n = 0, there = 0;
     if (!entries || !count) return DSTM_NULL;
-    while (n < most && there) {
+    while (n < most) {
         dstm_entry *it = &entries[n];
         dstm_code code = from ? dstm_ordered_next_above(me, map, from - 1, &there, &it->key, &it->low, &it->high)
                               : dstm_ordered_first(me, map, &there, &it->key, &it->low, &it->high);
@@ -847,9 +849,9 @@ static inline dstm_code dstm_set_pop_last(dstm_thread *me, dstm_ordered_set set,
 /* Tells the keys that are not below from: as dstm_ordered_scan does. */
 static inline dstm_code dstm_set_scan(dstm_thread *me, dstm_ordered_set set, uint64_t from, uint32_t most,
                                       uint64_t *keys, uint32_t *count) {
-    uint32_t n = 0, there = 1;
+    uint32_t n = 0, there = 0;
     if (!keys || !count) return DSTM_NULL;
-    while (n < most && there) {
+    while (n < most) {
         dstm_code code = from ? dstm_set_next_above(me, set, from - 1, &there, &keys[n])
                               : dstm_set_first(me, set, &there, &keys[n]);
         if (code) return code;

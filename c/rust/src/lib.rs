@@ -445,15 +445,6 @@ impl<'m> Thread<'m> {
         self.make(true, |tx, times| tx.wait(PATIENCE, times), f)
     }
 
-    /// Looks at the memory: calls the closure as `atomically` does. What the last call was told is of one moment. Nothing
-    /// that it has set takes effect, no number is drawn, and nobody is woken, so that views of several threads do not meet.
-    pub fn view<R>(
-        &mut self,
-        f: impl FnMut(&mut Tx<'_, 'm>) -> Result<R, Stop>,
-    ) -> Result<R, Error> {
-        self.make(false, |tx, times| tx.wait(PATIENCE, times), f)
-    }
-
     /// The same, and it waits for so long in all: then the answer is `Idle`. With `Duration::ZERO` it does not wait.
     #[cfg(feature = "std")]
     pub fn atomically_within<R>(
@@ -469,6 +460,15 @@ impl<'m> Thread<'m> {
             Ok(())
         };
         self.make(true, wait, f)
+    }
+
+    /// Looks at the memory: calls the closure as `atomically` does. What the last call was told is of one moment. Nothing
+    /// that it has set takes effect, no number is drawn, and nobody is woken, so that views of several threads do not meet.
+    pub fn view<R>(
+        &mut self,
+        f: impl FnMut(&mut Tx<'_, 'm>) -> Result<R, Stop>,
+    ) -> Result<R, Error> {
+        self.make(false, |tx, times| tx.wait(PATIENCE, times), f)
     }
 
     // Calls the closure on attempts, one after the other, until one has ended well.
