@@ -38,6 +38,39 @@
 //! # Ok::<(), dstm::Error>(())
 //! ```
 //!
+//! A closure may have errors of its own, which give the transaction up:
+//!
+//! ```
+//! use dstm::{Failure, Memory};
+//! #[derive(Debug, PartialEq)]
+//! struct Poor(u64);
+//! let mut memory = Memory::new(1)?;
+//! let account = memory.cell(30u64)?;
+//! let mut me = memory.thread()?;
+//! let paid = me.try_atomically(|tx| {
+//!     let has = tx.get(account)?;
+//!     let left = has.checked_sub(50).map_or_else(|| tx.fail(Poor(has)), Ok)?;
+//!     Ok(tx.set(account, left)?)
+//! });
+//! assert_eq!(paid, Err(Failure::Own(Poor(30))));
+//! # Ok::<(), dstm::Error>(())
+//! ```
+//!
+//! Threads that may outlive the one that starts them take parts of a memory that all of them hold:
+//!
+//! ```
+//! use dstm::Memory;
+//! use std::sync::Arc;
+//! let mut memory = Memory::new(2)?;
+//! let counter = memory.cell(0u64)?;
+//! let memory = Arc::new(memory);
+//! let mut me = memory.thread_owned()?;
+//! let adds = std::thread::spawn(move || me.atomically(|tx| tx.update(counter, |n| n + 1)));
+//! adds.join().unwrap()?;
+//! assert_eq!(memory.thread()?.view(|tx| tx.get(counter))?, 1);
+//! # Ok::<(), dstm::Error>(())
+//! ```
+//!
 //! No cell is made, and none is looked at from outside, while a thread has a part:
 //!
 //! ```compile_fail,E0502
@@ -90,19 +123,24 @@
 #![deny(unsafe_op_in_unsafe_fn, missing_docs)]
 
 mod bell;
+mod home;
 mod lock;
 mod structures;
+mod word;
 
 use bell::{give_way, Bell};
 use core::cell::Cell as Plain;
+use core::convert::Infallible;
 use core::fmt::{Debug, Display, Formatter};
 use core::marker::PhantomData;
 use core::mem::forget;
 use core::ptr::null_mut;
 use core::sync::atomic::{AtomicU64, Ordering};
 use core::time::Duration;
+use home::Home;
 use lock::Lock;
 pub use structures::{HashMap, Inserted, Keys, OrderedMap, OrderedSet, Placed, Pool, Queue, Scan};
+pub use word::{Single, Word};
 
 // What `dstm.h` calls dstm_memory and dstm_thread.
 #[repr(C)]
@@ -163,6 +201,8 @@ pub enum Error {
     Idle,
     /// The closure was stopped by a call on another transaction, which is lost; its own is not.
     Elsewhere,
+    /// A part was never given back: `mem::forget` took it.
+    Busy,
 }
 
 impl Display for Error {
@@ -175,6 +215,7 @@ impl Display for Error {
             Error::Range => "a number is out of its range",
             Error::Idle => "a transaction waited in vain",
             Error::Elsewhere => "another transaction is lost",
+            Error::Busy => "a part was never given back",
         })
     }
 }
@@ -192,10 +233,60 @@ pub enum Stop {
     Failed(Error),
 }
 
+/// Why a closure that has errors of its own cannot go on: it hands it out, by `?` where a call was stopped.
+#[derive(Clone, Copy, Debug, PartialEq, Eq)]
+pub enum Halt<E> {
+    /// A call on the transaction was stopped.
+    Stopped(Stop),
+    /// The transaction is given up, and this is the answer.
+    Own(E),
+}
+
+impl<E> From<Stop> for Halt<E> {
+    fn from(stop: Stop) -> Self {
+        Halt::Stopped(stop)
+    }
+}
+
+/// Why a transaction whose closure has errors of its own did not take effect.
+#[derive(Clone, Copy, Debug, PartialEq, Eq)]
+pub enum Failure<E> {
+    /// As `atomically` says.
+    Failed(Error),
+    /// The closure has ended by this.
+    Own(E),
+}
+
+impl<E> From<Error> for Failure<E> {
+    fn from(error: Error) -> Self {
+        Failure::Failed(error)
+    }
+}
+
+impl<E: Display> Display for Failure<E> {
+    fn fmt(&self, f: &mut Formatter<'_>) -> core::fmt::Result {
+        match self {
+            Failure::Failed(error) => Display::fmt(error, f),
+            Failure::Own(error) => Display::fmt(error, f),
+        }
+    }
+}
+
+impl<E: core::error::Error> core::error::Error for Failure<E> {}
+
+// Why one failed whose closure has none.
+fn failed(failure: Failure<Infallible>) -> Error {
+    match failure {
+        Failure::Failed(error) => error,
+        Failure::Own(never) => match never {},
+    }
+}
+
 fn error(code: u32) -> Error {
     match code {
         2 => Error::Spent,
         3 => Error::Foreign,
+        8 => Error::Busy,
         9 => Error::Full,
         10 => Error::Memory,
         11 => Error::Range,
@@ -235,68 +326,23 @@ pub enum Engine {
     Greedy = 4,
 }
 
-/// What a cell can hold: what two words of 64 bits keep.
-pub trait Word: Copy {
-    /// The words that keep it.
-    fn to_words(self) -> (u64, u64);
-    /// What such words keep. It is called with any two words that a cell holds, also such as no `to_words` of this type
-    /// has made: those of a cell that was given back to its pool, or that another type has named.
-    fn from_words(low: u64, high: u64) -> Self;
-}
-
-macro_rules! numbers {
-    ($($t:ty)*) => {$(
-        impl Word for $t {
-            fn to_words(self) -> (u64, u64) { (self as u64, 0) }
-            fn from_words(low: u64, _: u64) -> Self { low as $t }
-        }
-    )*};
-}
-numbers!(u8 u16 u32 u64 usize i8 i16 i32 i64 isize);
-
-impl Word for bool {
-    fn to_words(self) -> (u64, u64) {
-        (self.into(), 0)
-    }
-    fn from_words(low: u64, _: u64) -> Self {
-        low != 0
-    }
-}
-
-impl Word for f64 {
-    fn to_words(self) -> (u64, u64) {
-        (self.to_bits(), 0)
-    }
-    fn from_words(low: u64, _: u64) -> Self {
-        f64::from_bits(low)
-    }
-}
-
-impl Word for u128 {
-    fn to_words(self) -> (u64, u64) {
-        (self as u64, (self >> 64) as u64)
-    }
-    fn from_words(low: u64, high: u64) -> Self {
-        u128::from(high) << 64 | u128::from(low)
-    }
-}
-
-impl Word for (u64, u64) {
-    fn to_words(self) -> (u64, u64) {
-        self
-    }
-    fn from_words(low: u64, high: u64) -> Self {
-        (low, high)
-    }
-}
-
-impl Word for Option<u64> {
-    fn to_words(self) -> (u64, u64) {
-        self.map_or((0, 0), |low| (low, 1))
-    }
-    fn from_words(low: u64, high: u64) -> Self {
-        (high == 1).then_some(low)
-    }
+/// What has become of the attempts of a part, each of which has ended in one of these ways.
+#[derive(Clone, Copy, Debug, Default, PartialEq, Eq)]
+pub struct Counts {
+    /// How many were begun: so many as the others come to together.
+    pub begun: u64,
+    /// They took effect.
+    pub committed: u64,
+    /// They were views, and ended well.
+    pub viewed: u64,
+    /// They were lost before their closure had ended.
+    pub lost: u64,
+    /// They were lost as they were to be committed.
+    pub refused: u64,
+    /// Their closure retried, and the thread waited.
+    pub waited: u64,
+    /// They were given up: by another error, or by a panic.
+    pub given_up: u64,
 }
 
 /// A cell of a memory: a name, copies of which name the same cell.
@@ -381,7 +427,7 @@ impl Memory {
         })
     }
 
-    /// A new cell. There are at most 524,288.
+    /// A new cell. There are at most 524,288. `Busy`: `mem::forget` took a part, which is so never given back.
     pub fn cell<T: Word>(&mut self, value: T) -> Result<Cell<T>, Error> {
         let (low, high) = value.to_words();
         let mut object = 0;
@@ -393,7 +439,7 @@ impl Memory {
         })
     }
 
-    /// What a cell holds.
+    /// What a cell holds. `Busy`, as of `cell`.
     pub fn get<T: Word>(&mut self, cell: Cell<T>) -> Result<T, Error> {
         if cell.memory != self.id {
             return Err(Error::Foreign);
@@ -405,16 +451,15 @@ impl Memory {
 
     /// A part for a thread. `Full`: so many threads have parts; or, while one was always out, parts have come and gone:
     /// in a row as many as threads are given out, and by TL2 up to 63. One that `mem::forget` takes is never given
-    /// back: `cell` and `get` of its memory panic then.
+    /// back: `cell` and `get` of its memory answer `Busy` then.
     pub fn thread(&self) -> Result<Thread<'_>, Error> {
-        let mut handle = CLOSED;
-        done(unsafe { dstmc_thread_new(&mut self.handle.lock(), &mut handle) })?;
-        Ok(Thread {
-            memory: self,
-            seed: handle.at as u64,
-            handle,
-            alone: PhantomData,
-        })
+        Thread::of(Home::Lent(self))
+    }
+
+    /// The same for a thread that may outlive this call: the part holds the memory.
+    #[cfg(feature = "std")]
+    pub fn thread_owned(self: &std::sync::Arc<Self>) -> Result<Thread<'static>, Error> {
+        Thread::of(Home::Held(self.clone()))
     }
 }
 
@@ -426,13 +471,39 @@ impl Drop for Memory {
 
 /// A thread's part in a memory. It may go to another thread, and is not shared.
 pub struct Thread<'m> {
-    memory: &'m Memory,
+    memory: Home<'m>,
+    // The number of the memory.
+    id: u64,
     handle: Handle,
     seed: u64,
+    // What is given up is not counted: it is the rest.
+    counts: Counts,
     alone: PhantomData<Plain<()>>,
 }
 
 impl<'m> Thread<'m> {
+    fn of(memory: Home<'m>) -> Result<Thread<'m>, Error> {
+        let mut handle = CLOSED;
+        done(unsafe { dstmc_thread_new(&mut memory.handle.lock(), &mut handle) })?;
+        Ok(Thread {
+            id: memory.id,
+            memory,
+            seed: handle.at as u64,
+            handle,
+            counts: Counts::default(),
+            alone: PhantomData,
+        })
+    }
+
+    /// What has become of its attempts, with those of parts that were spent and that it has replaced.
+    pub fn counts(&self) -> Counts {
+        let Counts { begun, committed, viewed, lost, refused, waited, .. } = self.counts;
+        Counts {
+            given_up: begun - committed - viewed - lost - refused - waited,
+            ..self.counts
+        }
+    }
+
     /// Makes a transaction: calls the closure, and again, until what it did has taken effect as a whole. On a panic
     /// of the closure it is given up. After each attempt that was lost the thread gives way, for longer each time, 1 ms
     /// at most; after 8 of them the transaction goes first, so that a long one gets through beside short ones. Where the
@@ -440,17 +511,25 @@ impl<'m> Thread<'m> {
     /// ten seconds. Without the feature `std` it spins, for 1,048,576 looks.
     pub fn atomically<R>(
         &mut self,
-        f: impl FnMut(&mut Tx<'_, 'm>) -> Result<R, Stop>,
+        mut f: impl FnMut(&mut Tx<'_, 'm>) -> Result<R, Stop>,
     ) -> Result<R, Error> {
+        self.try_atomically(|tx| Ok(f(tx)?)).map_err(failed)
+    }
+
+    /// The same of a closure that may also end by an error of its own, which gives the transaction up.
+    pub fn try_atomically<R, E>(
+        &mut self,
+        f: impl FnMut(&mut Tx<'_, 'm>) -> Result<R, Halt<E>>,
+    ) -> Result<R, Failure<E>> {
         self.make(true, |tx, times| tx.wait(PATIENCE, times), f)
     }
 
-    /// The same, and it waits for so long in all: then the answer is `Idle`. With `Duration::ZERO` it does not wait.
+    /// The same as `atomically`, and it waits for so long in all: then the answer is `Idle`. With `Duration::ZERO` it does not wait.
     #[cfg(feature = "std")]
     pub fn atomically_within<R>(
         &mut self,
         patience: Duration,
-        f: impl FnMut(&mut Tx<'_, 'm>) -> Result<R, Stop>,
+        mut f: impl FnMut(&mut Tx<'_, 'm>) -> Result<R, Stop>,
     ) -> Result<R, Error> {
         let mut left = patience;
         let wait = |tx: &mut Tx<'_, 'm>, times| {
@@ -459,38 +538,49 @@ impl<'m> Thread<'m> {
             left = left.saturating_sub(begun.elapsed());
             Ok(())
         };
-        self.make(true, wait, f)
+        self.make(true, wait, |tx| Ok(f(tx)?)).map_err(failed)
     }
 
     /// Looks at the memory: calls the closure as `atomically` does. What the last call was told is of one moment. Nothing
     /// that it has set takes effect, no number is drawn, and nobody is woken, so that views of several threads do not meet.
     pub fn view<R>(
         &mut self,
-        f: impl FnMut(&mut Tx<'_, 'm>) -> Result<R, Stop>,
+        mut f: impl FnMut(&mut Tx<'_, 'm>) -> Result<R, Stop>,
     ) -> Result<R, Error> {
-        self.make(false, |tx, times| tx.wait(PATIENCE, times), f)
+        self.make(false, |tx, times| tx.wait(PATIENCE, times), |tx| Ok(f(tx)?)).map_err(failed)
     }
 
     // Calls the closure on attempts, one after the other, until one has ended well.
-    fn make<R>(
+    fn make<R, E>(
         &mut self,
         commits: bool,
         mut wait: impl FnMut(&mut Tx<'_, 'm>, u32) -> Result<(), Error>,
-        mut f: impl FnMut(&mut Tx<'_, 'm>) -> Result<R, Stop>,
-    ) -> Result<R, Error> {
+        mut f: impl FnMut(&mut Tx<'_, 'm>) -> Result<R, Halt<E>>,
+    ) -> Result<R, Failure<E>> {
         let (mut lost, mut waits) = (0, 0u32);
         loop {
             self.wait_for_turn(lost);
             self.begin()?;
+            self.counts.begun += 1;
             let mut tx = Tx { thread: self };
             match f(&mut tx) {
                 Ok(answer) => {
-                    if !commits || tx.commit()? {
+                    if !commits {
+                        tx.thread.counts.viewed += 1;
                         return Ok(answer);
                     }
+                    if tx.commit()? {
+                        self.counts.committed += 1;
+                        return Ok(answer);
+                    }
+                    self.counts.refused += 1;
                 }
-                Err(Stop::Again) => forget(tx),
-                Err(Stop::Retry) => {
+                Err(Halt::Stopped(Stop::Again)) => {
+                    tx.thread.counts.lost += 1;
+                    forget(tx);
+                }
+                Err(Halt::Stopped(Stop::Retry)) => {
+                    tx.thread.counts.waited += 1;
                     waits = waits.saturating_add(1);
                     wait(&mut tx, waits)?;
                     forget(tx);
@@ -498,7 +588,8 @@ impl<'m> Thread<'m> {
                     lost = 0;
                     continue;
                 }
-                Err(Stop::Failed(error)) => return Err(error),
+                Err(Halt::Stopped(Stop::Failed(error))) => return Err(error.into()),
+                Err(Halt::Own(error)) => return Err(Failure::Own(error)),
             }
             if lost < MOST_LOST {
                 lost += 1;
@@ -523,6 +614,7 @@ impl<'m> Thread<'m> {
         let mut code = unsafe { dstmc_begin(&mut self.handle) };
         if code == OPEN {
             // It is not lost: the closure was told so of another one.
+            self.counts.lost -= 1;
             let _ = unsafe { dstmc_abort(&mut self.handle) };
             return Err(Error::Elsewhere);
         }
@@ -585,7 +677,7 @@ impl<'m> Tx<'_, 'm> {
     }
 
     fn mine<T>(&self, cell: Cell<T>) -> Result<u32, Stop> {
-        if cell.memory == self.thread.memory.id {
+        if cell.memory == self.thread.id {
             Ok(cell.object)
         } else {
             Err(Stop::Failed(Error::Foreign))
@@ -632,6 +724,11 @@ impl<'m> Tx<'_, 'm> {
     /// Has the closure called again once something that it has read may have changed.
     pub fn retry<R>(&self) -> Result<R, Stop> {
         Err(Stop::Retry)
+    }
+
+    /// Gives the transaction up, by an error of the closure's own.
+    pub fn fail<R, E>(&self, error: E) -> Result<R, Halt<E>> {
+        Err(Halt::Own(error))
     }
 
     /// Retries where the condition does not hold.

@@ -37,7 +37,7 @@ impl Name {
 
     // The part by which a transaction makes a call on it.
     fn by<'t>(self, tx: &'t mut Tx<'_, '_>) -> Result<&'t mut Handle, Stop> {
-        if self.memory == tx.thread.memory.id {
+        if self.memory == tx.thread.id {
             Ok(&mut tx.thread.handle)
         } else {
             Err(Stop::Failed(Error::Foreign))

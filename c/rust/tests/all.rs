@@ -1,4 +1,4 @@
-use dstm::{Cell, Engine, Error, HashMap, Inserted, Memory, Placed, Stop, Thread, Tx};
+use dstm::{Cell, Counts, Engine, Error, Failure, Halt, HashMap, Inserted, Memory, Placed, Stop, Thread, Tx, Word};
 use std::collections::{BTreeMap, BTreeSet, HashMap as Plain};
 use std::panic::{catch_unwind, AssertUnwindSafe};
 use std::thread::{scope, ScopedJoinHandle};
@@ -683,6 +683,164 @@ fn a_view_sets_nothing() {
     }
 }
 
+#[derive(Debug, PartialEq)]
+struct Poor(u64);
+
+// Takes from an account.
+fn pay(tx: &mut Tx<'_, '_>, account: Cell<u64>, price: u64) -> Result<u64, Halt<Poor>> {
+    let has = tx.get(account)?;
+    let Some(left) = has.checked_sub(price) else {
+        return tx.fail(Poor(has));
+    };
+    tx.set(account, left)?;
+    Ok(left)
+}
+
+#[test]
+fn a_closure_may_end_by_an_error_of_its_own() {
+    for engine in ENGINES {
+        let mut memory = Memory::with_engine(2, engine).unwrap();
+        let (a, b) = (memory.cell(30u64).unwrap(), memory.cell(20u64).unwrap());
+        let mut other = Memory::new(1).unwrap();
+        let foreign = other.cell(9u64).unwrap();
+        let (mut me, mut beside) = (memory.thread().unwrap(), memory.thread().unwrap());
+        let mut pay_both = |price| {
+            me.try_atomically(|tx| {
+                pay(tx, a, price)?;
+                pay(tx, b, price)
+            })
+        };
+        assert_eq!(pay_both(15), Ok(5));
+        // Nothing of one that is given up takes effect.
+        assert_eq!(pay_both(10), Err(Failure::Own(Poor(5))));
+        assert_eq!(pay_both(5), Ok(0));
+        // One that is lost is begun again, and its error is not the answer.
+        let mut calls = 0;
+        let paid = me.try_atomically(|tx| {
+            calls += 1;
+            tx.get(b)?;
+            if calls == 1 {
+                let both = |tx: &mut Tx<'_, '_>| {
+                    tx.set(a, 40)?;
+                    tx.set(b, 50)
+                };
+                beside.atomically(both).unwrap();
+            }
+            pay(tx, a, 1)?;
+            pay(tx, b, 50)
+        });
+        assert_eq!((paid, calls), (Ok(0), 2));
+        assert_eq!(me.try_atomically(|tx| pay(tx, foreign, 1)), Err(Failure::Failed(Error::Foreign)));
+        assert_eq!(Failure::Own(Error::Range).to_string(), Error::Range.to_string());
+        assert_eq!(Failure::<Error>::from(Error::Full).to_string(), Error::Full.to_string());
+        drop((me, beside));
+        assert_eq!((memory.get(a), memory.get(b)), (Ok(39), Ok(0)));
+    }
+}
+
+#[test]
+fn each_attempt_is_counted() {
+    for engine in ENGINES {
+        let mut memory = Memory::with_engine(2, engine).unwrap();
+        let cell = memory.cell(0u64).unwrap();
+        let mut elsewhere = Memory::with_engine(1, engine).unwrap();
+        let nothing = elsewhere.cell(0u64).unwrap();
+        let (mut me, mut beside) = (memory.thread().unwrap(), memory.thread().unwrap());
+        assert_eq!(me.counts(), Counts::default());
+        for _ in 0..5 {
+            me.atomically(|tx| tx.update(cell, |n| n + 1)).unwrap();
+            me.view(|tx| tx.get(cell)).unwrap();
+        }
+        let ended = Counts { begun: 10, committed: 5, viewed: 5, ..Counts::default() };
+        assert_eq!(me.counts(), ended);
+        assert_eq!(me.atomically(|_| Err::<(), _>(Stop::Failed(Error::Range))), Err(Error::Range));
+        assert_eq!(me.try_atomically(|tx| tx.fail::<(), _>(7)), Err(Failure::Own(7)));
+        let panicked = catch_unwind(AssertUnwindSafe(|| me.atomically(|_| -> Result<(), Stop> { panic!("in it") })));
+        assert!(panicked.is_err());
+        assert_eq!(me.counts(), Counts { begun: 13, given_up: 3, ..ended });
+        // Another one comes between: what it has read cannot be read again, or not be committed.
+        let mut calls = 0;
+        me.atomically(|tx| {
+            calls += 1;
+            let n = tx.get(cell)?;
+            if calls == 1 {
+                beside.atomically(|tx| tx.update(cell, |n| n + 1)).unwrap();
+            }
+            tx.set(cell, n + 1)
+        })
+        .unwrap();
+        let Counts { begun, committed, lost, refused, .. } = me.counts();
+        assert_eq!((begun, committed, lost + refused), (15, 6, 1));
+        // One that was told so of another one is given up.
+        let told = me.atomically(|_| Err::<(), _>(Stop::Again));
+        assert_eq!((told, me.counts().given_up), (Err(Error::Elsewhere), 4));
+        assert_eq!(me.counts().lost, lost);
+        // One that waits is woken by another thread, and begins again.
+        let mut calls = 0;
+        me.atomically(|tx| {
+            calls += 1;
+            let n = tx.get(cell)?;
+            if calls == 1 {
+                beside.atomically(|tx| tx.set(cell, 100)).unwrap();
+            }
+            tx.ensure(n == 100)
+        })
+        .unwrap();
+        let all = me.counts();
+        assert_eq!((all.begun, all.committed, all.waited), (18, 7, 1));
+        assert_eq!(all.begun, all.committed + all.viewed + all.lost + all.refused + all.waited + all.given_up);
+        drop((me, beside));
+        assert_eq!((memory.get(cell), elsewhere.get(nothing)), (Ok(100), Ok(0)));
+    }
+}
+
+#[cfg(feature = "std")]
+#[test]
+fn a_part_may_hold_its_memory() {
+    use std::sync::Arc;
+    for engine in ENGINES {
+        let mut memory = Memory::with_engine(4, engine).unwrap();
+        let counter = memory.cell(0u64).unwrap();
+        let mut memory = Arc::new(memory);
+        let parts: Vec<_> = (0..4).map(|_| memory.thread_owned().unwrap()).collect();
+        assert!(Arc::get_mut(&mut memory).is_none());
+        let adds = |mut me: Thread<'static>| {
+            std::thread::spawn(move || {
+                for _ in 0..1_000 {
+                    me.atomically(|tx| tx.update(counter, |n| n + 1)).unwrap();
+                }
+            })
+        };
+        let running: Vec<_> = parts.into_iter().map(adds).collect();
+        running.into_iter().for_each(|it| it.join().unwrap());
+        assert_eq!(Arc::get_mut(&mut memory).unwrap().get(counter), Ok(4_000));
+        // The last part that holds it frees it.
+        let mut me = memory.thread_owned().unwrap();
+        drop(memory);
+        assert_eq!(me.view(|tx| tx.get(counter)), Ok(4_000));
+    }
+}
+
+#[test]
+fn a_memory_whose_part_was_forgotten_is_busy() {
+    for engine in ENGINES {
+        let mut memory = Memory::with_engine(2, engine).unwrap();
+        let cell = memory.cell(1u64).unwrap();
+        // As by mem::forget, but that it is found again in the end, so that nothing leaks.
+        let forgotten = Box::into_raw(Box::new(memory.thread().unwrap())) as usize;
+        assert_eq!(memory.get(cell), Err(Error::Busy));
+        assert_eq!(memory.cell(2u64), Err(Error::Busy));
+        assert_eq!(memory.queue::<u64>(2).err(), Some(Error::Busy));
+        // Other parts go on.
+        let mut me = memory.thread().unwrap();
+        assert_eq!(me.atomically(|tx| tx.update(cell, |n| n + 1)), Ok(1));
+        assert_eq!(memory.thread().err(), Some(Error::Full));
+        drop(me);
+        drop(unsafe { Box::from_raw(forgotten as *mut Thread<'_>) });
+        assert_eq!(memory.get(cell), Ok(2));
+    }
+}
+
 #[test]
 fn a_long_transaction_gets_through_beside_short_ones() {
     for engine in ENGINES {
@@ -774,12 +932,37 @@ fn words_keep_what_they_are_given() {
 }
 
 #[test]
+fn small_ones_share_a_cell() {
+    fn keeps<T: Word + PartialEq + std::fmt::Debug>(memory: &mut Memory, values: &[T]) {
+        for value in values {
+            let cell = memory.cell(*value).unwrap();
+            assert_eq!(memory.get(cell), Ok(*value));
+        }
+    }
+    let mut memory = Memory::new(1).unwrap();
+    keeps(&mut memory, &[f32::MIN, -0.5, f32::INFINITY]);
+    keeps(&mut memory, &['a', '\u{10FFFF}', '\0']);
+    keeps(&mut memory, &[i128::MIN, -1, i128::MAX]);
+    keeps(&mut memory, &[()]);
+    keeps(&mut memory, &[(i32::MIN, 'x'), (-1, '\u{D7FF}')]);
+    keeps(&mut memory, &[(true, f32::EPSILON), (false, f32::MAX)]);
+    keeps(&mut memory, &[(u64::MAX, i64::MIN), (0, -1)]);
+    keeps(&mut memory, &[(u32::MAX, 0, 1), (2, u32::MAX, u32::MAX)]);
+    keeps(&mut memory, &[(u32::MAX, 0, 1, u32::MAX), (0, u32::MAX, u32::MAX, 0)]);
+    // What is no character is told as one that stands for it.
+    for word in [0xD800, 0x11_0000, u64::from(u32::MAX) + 98] {
+        assert_eq!(char::from_words(word, 0), char::REPLACEMENT_CHARACTER);
+    }
+}
+
+#[test]
 fn types_cross_as_they_may() {
     fn send<T: Send>() {}
     fn sync<T: Sync>() {}
     send::<Memory>();
     sync::<Memory>();
     send::<Thread<'_>>();
+    send::<Thread<'static>>();
     send::<Cell<u64>>();
     sync::<Cell<u64>>();
 }
