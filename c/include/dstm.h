@@ -83,10 +83,27 @@ typedef enum dstm_engine {
     DSTM_GREEDY = 4
 } dstm_engine;
 
+/* What has become of the attempts that dstm_atomically and its like have made by a part, and by those that its handle had
+   before: how many were begun, and have ended in each of these ways. The others are given up, or under way
+   (dstm_given_up). The thread that has the part reads them as me.counts. */
+typedef struct dstm_counts {
+    uint64_t begun;
+    uint64_t committed; /* they took effect */
+    uint64_t viewed;    /* they were views, and ended well */
+    uint64_t lost;      /* a call of their body told that they are lost */
+    uint64_t refused;   /* they were lost at their commit */
+    uint64_t waited;    /* their body answered DSTM_RETRY */
+} dstm_counts;
+
+/* The library has the first two fields of a handle alone. */
 typedef struct dstm_memory { void *at; uint64_t state; } dstm_memory;
-typedef struct dstm_thread { void *at; uint64_t state; } dstm_thread;
+typedef struct dstm_thread { void *at; uint64_t state; dstm_counts counts; } dstm_thread;
 typedef uint32_t dstm_cell;
-#define DSTM_ZERO {0, 0}
+#ifdef __cplusplus
+#define DSTM_ZERO {}
+#else
+#define DSTM_ZERO {0}
+#endif
 
 /* What the library exports: the same calls without the tests for null. */
 uint32_t dstmc_version(void);
@@ -401,6 +418,13 @@ static inline dstm_code dstm_wait_for(dstm_thread *me, uint64_t nanoseconds) {
     return code ? code : DSTM_RETRY;
 }
 
+/* How many attempts were given up: they have ended by another code, or were left by an exception or by longjmp. One that
+   is under way is told with them. */
+static inline uint64_t dstm_given_up(const dstm_thread *me) {
+    const dstm_counts *of = &me->counts;
+    return of->begun - of->committed - of->viewed - of->lost - of->refused - of->waited;
+}
+
 /* ALTERNATIVES. */
 
 /* Marks what the transaction has set. Where it is lost already, this and dstm_undo_to may still answer OK: what counts
@@ -457,21 +481,39 @@ static inline dstm_code dstm_begin_in_turn(dstm_thread *me, uint32_t lost) {
         if (++asked % 1024 == 0) dstm_give_way(asked / 1024);
     return dstm_begin(me);
 }
-/* The loop of all that follows: calls a body on attempts, one after the other, until one has ended well. */
+/* How an attempt of the loop below ends whose body has answered OK. */
 typedef dstm_code (*dstm_ending)(dstm_thread *me);
+static inline dstm_code dstm_end_by_commit(dstm_thread *me) {
+    dstm_code code = dstm_commit(me);
+    if (!code) me->counts.committed++;
+    if (code == DSTM_AGAIN) me->counts.refused++;
+    return code;
+}
+static inline dstm_code dstm_end_view(dstm_thread *me) {
+    dstm_code code = dstm_abort(me);
+    if (!code) me->counts.viewed++;
+    return code;
+}
+/* The loop of all that follows: calls a body on attempts, one after the other, until one has ended well. */
 static inline dstm_code dstm_make(dstm_thread *me, dstm_ending end, dstm_waiting wait, uint64_t patience,
                                   dstm_body body, void *with) {
     uint32_t lost = 0, waits = 0;
     dstm_code code = dstm_begin_in_turn(me, lost);
     while (!code) {
         int waited;
+        me->counts.begun++;
         code = body(me, with);
         if (!code) {
             code = end(me);
             if (!code) return code;
+        } else if (code == DSTM_AGAIN) {
+            me->counts.lost++;
         }
         waited = code == DSTM_RETRY;
-        if (waited) code = wait(me, &patience, ++waits);
+        if (waited) {
+            me->counts.waited++;
+            code = wait(me, &patience, ++waits);
+        }
         if (code != DSTM_AGAIN) {
             dstm_abort(me);
             return code;
@@ -480,6 +522,7 @@ static inline dstm_code dstm_make(dstm_thread *me, dstm_ending end, dstm_waiting
         else if (lost < 8) dstm_give_way(++lost);
         code = dstm_begin_in_turn(me, lost);
         if (code == DSTM_OPEN) { /* it is not lost */
+            me->counts.lost--;
             dstm_abort(me);
             return DSTM_ELSEWHERE;
         }
@@ -494,20 +537,20 @@ static inline dstm_code dstm_make(dstm_thread *me, dstm_ending end, dstm_waiting
    ELSEWHERE. After each attempt that was lost the thread gives way, for longer each time, 1 ms at most; after 8 of them
    it goes first (dstm_turn). */
 static inline dstm_code dstm_atomically(dstm_thread *me, dstm_body body, void *with) {
-    return dstm_make(me, dstm_commit, dstm_wait_each, DSTM_PATIENCE, body, with);
+    return dstm_make(me, dstm_end_by_commit, dstm_wait_each, DSTM_PATIENCE, body, with);
 }
 /* The same, and it waits for so many nanoseconds in all. With 0 it does not wait. */
 static inline dstm_code dstm_atomically_within(dstm_thread *me, uint64_t nanoseconds, dstm_body body, void *with) {
-    return dstm_make(me, dstm_commit, dstm_wait_in_all, nanoseconds, body, with);
+    return dstm_make(me, dstm_end_by_commit, dstm_wait_in_all, nanoseconds, body, with);
 }
 /* The same by dstm_wait: it waits for so many looks each time, and does not sleep. */
 static inline dstm_code dstm_atomically_for(dstm_thread *me, uint32_t looks, dstm_body body, void *with) {
-    return dstm_make(me, dstm_commit, dstm_wait_looks, looks, body, with);
+    return dstm_make(me, dstm_end_by_commit, dstm_wait_looks, looks, body, with);
 }
 /* Looks at the memory by a body, as dstm_atomically calls it: what the last call was told is of one moment. Nothing that
    it has set takes effect, no number is drawn, and nobody is woken, so that views of several threads do not meet. */
 static inline dstm_code dstm_view(dstm_thread *me, dstm_body body, void *with) {
-    return dstm_make(me, dstm_abort, dstm_wait_each, DSTM_PATIENCE, body, with);
+    return dstm_make(me, dstm_end_view, dstm_wait_each, DSTM_PATIENCE, body, with);
 }
 
 /* STRUCTURES, made of cells. A program names one by the number of its first cell and by how much it has room for, as

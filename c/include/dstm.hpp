@@ -54,6 +54,7 @@ public:
     thread &operator=(const thread &) = delete;
     ~thread() { dstm_thread_free(&it); }
     operator dstm_thread *() { return &it; }
+    const dstm_counts &counts() const { return it.counts; }
 
     /* Makes a transaction of a body, which answers a code, as dstm_atomically does: false, where it has waited in vain.
        An exception out of it gives the transaction up, and goes on. */

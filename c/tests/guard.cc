@@ -33,6 +33,9 @@ static void test(dstm_engine engine) {
             thrown = it.code;
         }
         IS(DSTM_FOREIGN, thrown);
+        IS(4, me.counts().begun);
+        IS(2, me.counts().committed);
+        IS(2, dstm_given_up(me));
         IS(0, dstm_atomically_for(me, 5, [](dstm_thread *, void *) { return DSTM_RETRY; }, nullptr) == DSTM_OK);
         IS(DSTM_OK, dstm_begin(me));
         IS(DSTM_OK, dstm_queue_push_u64(me, queue, 1));
