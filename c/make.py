@@ -2,7 +2,7 @@
 """make.py: proves the library for programs in C, C++, Rust and Python, builds it, and tests it.
 
     python3 c/make.py                   leaves libdstm.a, libdstm.so.1 and dstm.pc in c/out, and runs all tests
-    python3 c/make.py --prefix FOLDER   and installs them, and the headers, below that folder
+    python3 c/make.py --prefix FOLDER   and installs them, the headers, what CMake takes and man pages below that folder
     python3 c/make.py --quiet           says only what failed, what was skipped, and how many passed; and leaves out what
                                         another version of a tool may see otherwise: whether clippy has a warning, and
                                         what rustc's thread sanitizer says of a std that is not built with it
@@ -32,7 +32,7 @@ ROOT = os.path.dirname(HERE)
 OUT = f"{HERE}/out"
 HEADER = f"{HERE}/include/dstm.h"
 EXPORTS = f"{ROOT}/crates/dstm_c/src"
-TESTS = ("first", "counter", "bank", "queue", "pool", "map", "ordered", "set", "alternatives", "nested")
+TESTS = ("first", "counter", "bank", "queue", "pool", "map", "ordered", "set", "alternatives", "nested", "counts")
 TESTS += ("parts", "turn", "waits", "misuse", "refused")
 # By which engines a test runs where it takes long; where none is named it runs by all of them.
 BOTH = ("tl2", "polka")
@@ -60,6 +60,24 @@ Description: A proved software transactional memory
 Version: {version}
 Cflags: -I${{includedir}}
 Libs: -L${{libdir}} -ldstm
+"""
+# Which versions a program may ask CMake for: this one, and those before it of the same first number.
+CMAKE_VERSION = """set(PACKAGE_VERSION {version})
+if(PACKAGE_FIND_VERSION_MAJOR EQUAL {first} AND NOT PACKAGE_FIND_VERSION VERSION_GREATER PACKAGE_VERSION)
+  set(PACKAGE_VERSION_COMPATIBLE TRUE)
+  if(PACKAGE_FIND_VERSION VERSION_EQUAL PACKAGE_VERSION)
+    set(PACKAGE_VERSION_EXACT TRUE)
+  endif()
+endif()
+"""
+CMAKE_PROGRAM = """cmake_minimum_required(VERSION 3.5)
+project(counts C)
+find_package(dstm {version} REQUIRED)
+find_package(Threads REQUIRED)
+foreach(by dstm shared)
+  add_executable(by_${{by}} {source})
+  target_link_libraries(by_${{by}} dstm::${{by}} Threads::Threads)
+endforeach()
 """
 
 
@@ -448,7 +466,7 @@ def rust_clean(room):
 def install(prefix):
     """Installs the library below a folder, and builds a program there by what pkg-config says."""
     version = ".".join(map(str, NUMBERS))
-    for folder in ("include", "lib/pkgconfig"):
+    for folder in ("include", "lib/pkgconfig", "lib/cmake/dstm", "share/man/man1", "share/man/man3"):
         os.makedirs(f"{prefix}/{folder}", exist_ok=True)
     shutil.copyfile(HEADER, f"{prefix}/include/dstm.h")
     shutil.copyfile(f"{HERE}/include/dstm.hpp", f"{prefix}/include/dstm.hpp")
@@ -462,6 +480,11 @@ def install(prefix):
         os.symlink(soname, link)
     with open(f"{prefix}/lib/pkgconfig/dstm.pc", "w", encoding="utf-8") as it:
         it.write(PC.format(prefix=os.path.abspath(prefix), version=version))
+    shutil.copyfile(f"{HERE}/cmake/dstmConfig.cmake", f"{prefix}/lib/cmake/dstm/dstmConfig.cmake")
+    with open(f"{prefix}/lib/cmake/dstm/dstmConfigVersion.cmake", "w", encoding="utf-8") as it:
+        it.write(CMAKE_VERSION.format(version=version, first=NUMBERS[0]))
+    for section in (1, 3):
+        shutil.copyfile(f"{HERE}/man/dstm.{section}", f"{prefix}/share/man/man{section}/dstm.{section}")
     return os.path.abspath(prefix)
 
 
@@ -473,6 +496,28 @@ def by_pkg_config(room):
     words = call(["pkg-config", "--cflags", "--libs", "dstm"], env=how).split()
     call([c_compiler(), "-std=c99", f"{HERE}/tests/counter.c", "-o", f"{room}/installed", *words, "-lpthread"])
     call([f"{room}/installed", "tl2"], env={**os.environ, "LD_LIBRARY_PATH": f"{prefix}/lib"})
+
+
+def by_cmake(room):
+    """A program finds the archive and the shared library that were installed."""
+    tool("cmake")
+    prefix, folder = install(f"{room}/prefix"), f"{room}/by_cmake"
+    os.makedirs(folder)
+    with open(f"{folder}/CMakeLists.txt", "w", encoding="utf-8") as it:
+        version = ".".join(map(str, NUMBERS[:2]))
+        it.write(CMAKE_PROGRAM.format(version=version, source=f"{HERE}/tests/counter.c"))
+    call(["cmake", "-S", folder, "-B", f"{folder}/made", f"-DCMAKE_PREFIX_PATH={prefix}"])
+    call(["cmake", "--build", f"{folder}/made"])
+    for by in ("dstm", "shared"):
+        call([f"{folder}/made/by_{by}", "tl2"])
+
+
+def pages():
+    """The man pages are set without a warning."""
+    for section in (1, 3):
+        said = call([tool("groff"), "-man", "-Tascii", "-ww", "-z", f"{HERE}/man/dstm.{section}"])
+        if said:
+            raise Failed(said)
 
 
 def bench():
@@ -523,6 +568,8 @@ def main():
                 steps.step("structures.py", lambda: python("structures.py", "done"))
                 steps.step("one bell of a program and its library", lambda: one_bell(room))
                 steps.step("counter.c as installed", lambda: by_pkg_config(room))
+                steps.step("counter.c by CMake", lambda: by_cmake(room))
+                steps.step("the man pages", pages)
             if steps.step("the crate dstm for Rust", lambda: rust(room)):
                 without = ("--no-default-features", "--test", "all")
                 steps.step("the crate dstm without std", lambda: rust(room, *without))
