@@ -1,18 +1,15 @@
 /* reserve WHAT THREADS EACH: customers reserve flights, rooms and cars and give them back, after the program vacation of STAMP.
-   It tells the nanoseconds of a transaction, on the clock and of the processors, and what the three maps come to, by
-     mutex  plain rows, and a lock of the system
-     itm    plain rows, and gcc's transactions, by the method that ITM_DEFAULT_METHOD names
-     tl2    hash maps of the library alone
+   It tells the nanoseconds of a transaction, on the clock and of the processors, and what the three maps come to: by tl2 they
+   are hash maps of the library alone, and plain rows by mutex, a lock of the system, and by itm, gcc's transactions.
    Each customer is one thread's, so that the end is the same by any number of threads. `reserve.py` builds and runs it. */
-#define _GNU_SOURCE
 #include "dstm.h"
 #include <pthread.h>
 #include <stdio.h>
 #include <stdlib.h>
-#include <string.h>
 #include <time.h>
 
 enum { ITEM, CUSTOMER, KEPT, MAPS, SORTS = 3, ITEMS = 4096, CUSTOMERS = 4096, MOST = 8, QUERIES = 4, PLACES = 65536 };
+enum { TELL, TAKE, PUT };
 #define ONE_LEFT (1ull << 32) /* an item has how many are taken, and this times how many are left; and its price */
 #define SAFE __attribute__((transaction_safe))
 #define PURE __attribute__((transaction_pure))
@@ -25,39 +22,31 @@ static pthread_mutex_t lock = PTHREAD_MUTEX_INITIALIZER;
 static pthread_barrier_t start;
 static dstm_thread parts[64];
 
-static PURE int tell_by_library(dstm_thread *me, int map, uint64_t key, int takes, uint64_t *low, uint64_t *high) {
-    uint32_t there;
-    return (takes ? dstm_map_remove : dstm_map_get)(me, maps[map], key, &there, low, high);
-}
-static PURE int put_by_library(dstm_thread *me, int map, uint64_t key, uint64_t low, uint64_t high) {
+static PURE int by_library(dstm_thread *me, int does, int map, uint64_t key, uint64_t *low, uint64_t *high) {
     uint64_t had_low, had_high;
-    uint32_t placed;
-    return dstm_map_put(me, maps[map], key, low, high, &placed, &had_low, &had_high);
+    uint32_t told;
+    if (does == PUT) return dstm_map_put(me, maps[map], key, *low, *high, &told, &had_low, &had_high);
+    return (does == TAKE ? dstm_map_remove : dstm_map_get)(me, maps[map], key, &told, low, high);
 }
-static SAFE struct row *row_of(int map, uint64_t key, int adds) {
+/* Tells what a map has for a key, and takes it out or not; or puts it in. */
+static SAFE int on(dstm_thread *me, int does, int map, uint64_t key, uint64_t *low, uint64_t *high) {
     struct row *gone = NULL, *it;
+    if (me) return by_library(me, does, map, key, low, high);
     for (uint64_t at = key * 11400714819323198485ull >> 48; (it = &rows[map][at % PLACES])->key; at++) {
-        if (it->key == key + 2) return it;
+        if (it->key == key + 2) break;
         if (it->key == 1 && !gone) gone = it;
     }
-    return !adds ? NULL : gone ? gone : it;
-}
-static SAFE int tell(dstm_thread *me, int map, uint64_t key, int takes, uint64_t *low, uint64_t *high) {
-    if (me) return tell_by_library(me, map, key, takes, low, high);
-    struct row *it = row_of(map, key, 0);
-    if (it) *low = it->low, *high = it->high;
-    if (it && takes) it->key = 1;
+    if (does == PUT && !it->key && gone) it = gone;
+    if (does == PUT) it->key = key + 2, it->low = *low, it->high = *high;
+    else if (it->key) *low = it->low, *high = it->high, it->key = does == TAKE ? 1 : it->key;
     return 0;
 }
 static SAFE int put(dstm_thread *me, int map, uint64_t key, uint64_t low, uint64_t high) {
-    if (me) return put_by_library(me, map, key, low, high);
-    struct row *it = row_of(map, key, 1);
-    it->key = key + 2, it->low = low, it->high = high;
-    return 0;
+    return on(me, PUT, map, key, &low, &high);
 }
 static SAFE int add(dstm_thread *me, uint64_t item, uint64_t more) {
     uint64_t low = 0, price = 0;
-    TRY(tell(me, ITEM, item, 0, &low, &price));
+    TRY(on(me, TELL, ITEM, item, &low, &price));
     return put(me, ITEM, item, low + more, price);
 }
 /* 90 of a hundred reserve the dearest item of each sort that they look at, 5 give all back, and 5 add to some items. */
@@ -65,12 +54,12 @@ static SAFE int run(dstm_thread *me, const struct task *it) {
     uint64_t best[SORTS] = {0}, most[SORTS] = {0}, low = 0, price = 0, item = 0, count = 0, bill = 0;
     for (int k = 0; it->what >= 95 && k < QUERIES; k++) TRY(add(me, it->items[k], ONE_LEFT));
     for (int k = 0; it->what < 90 && k < QUERIES; k++) {
-        TRY(tell(me, ITEM, item = it->items[k], 0, &low, &price));
+        TRY(on(me, TELL, ITEM, item = it->items[k], &low, &price));
         if (low >= ONE_LEFT && price > most[item / ITEMS]) best[item / ITEMS] = item, most[item / ITEMS] = price;
     }
-    if (it->what < 95) TRY(tell(me, CUSTOMER, it->customer, it->what >= 90, &count, &bill));
+    if (it->what < 95) TRY(on(me, it->what < 90 ? TELL : TAKE, CUSTOMER, it->customer, &count, &bill));
     for (uint64_t n = 0; it->what >= 90 && n < count; n++) {
-        TRY(tell(me, KEPT, it->customer * MOST + n, 1, &item, &price));
+        TRY(on(me, TAKE, KEPT, it->customer * MOST + n, &item, &price));
         TRY(add(me, item, ONE_LEFT - 1));
     }
     if (it->what >= 90 || count + SORTS > MOST) return 0;
@@ -105,18 +94,17 @@ static void *work(void *arg) {
 int main(int n, char **args) {
     uint64_t seed = 2, sum = 0;
     dstm_memory memory = DSTM_ZERO;
-    dstm_thread *first = n == 4 && !strcmp(args[1], "tl2") ? &parts[0] : NULL;
+    dstm_thread *first = n == 4 && *args[1] == 't' ? &parts[0] : NULL;
     pthread_t running[64];
     if (n != 4 || (threads = atoi(args[2])) < 1 || threads > 63) return 2;
-    each = atoi(args[3]), locks = !strcmp(args[1], "mutex");
+    each = atoi(args[3]), locks = *args[1] == 'm';
     if (first && dstm_memory_new(&memory, (uint32_t)threads, DSTM_TL2)) return 3;
     for (int map = 0; first && map < MAPS; map++) if (dstm_map_new(&memory, PLACES, &maps[map])) return 3;
     for (int i = 0; first && i < threads; i++) if (dstm_thread_new(&memory, &parts[i])) return 3;
-    if (first && dstm_begin(first)) return 3;
+    if (pthread_barrier_init(&start, NULL, (unsigned)threads + 1) || (first && dstm_begin(first))) return 3;
     for (uint64_t item = 0; item < SORTS * ITEMS; item++)
         if (put(first, ITEM, item, 1000 * ONE_LEFT, 50 + next(&seed) % 450)) return 3;
     if (first && dstm_commit(first)) return 3;
-    pthread_barrier_init(&start, NULL, (unsigned)threads + 1);
     for (int i = 0; i < threads; i++) pthread_create(&running[i], NULL, work, (void *)(intptr_t)i);
     double c = now(CLOCK_PROCESS_CPUTIME_ID), w = now(CLOCK_MONOTONIC);
     pthread_barrier_wait(&start);
@@ -124,7 +112,7 @@ int main(int n, char **args) {
     w = now(CLOCK_MONOTONIC) - w, c = now(CLOCK_PROCESS_CPUTIME_ID) - c;
     if (first && dstm_begin(first)) return 3;
     for (uint64_t key = 0, low = 0, high = 0; key < MAPS * CUSTOMERS * MOST; key++, low = high = 0) {
-        if (tell(first, (int)(key % MAPS), key / MAPS, 0, &low, &high)) return 3;
+        if (on(first, TELL, (int)(key % MAPS), key / MAPS, &low, &high)) return 3;
         sum = sum * 31 + low * 7 + high;
     }
     printf("%.0f ns clock, %.0f ns processor, %016llx\n", w / each, c / each, (unsigned long long)sum);
