@@ -6,6 +6,7 @@
 #include <pthread.h>
 #include <stdio.h>
 #include <stdlib.h>
+#include <string.h>
 #include <time.h>
 
 enum { ITEM, CUSTOMER, KEPT, MAPS, SORTS = 3, ITEMS = 4096, CUSTOMERS = 4096, MOST = 8, QUERIES = 4, PLACES = 65536 };
@@ -21,7 +22,6 @@ static int threads, each, locks;
 static pthread_mutex_t lock = PTHREAD_MUTEX_INITIALIZER;
 static pthread_barrier_t start;
 static dstm_thread parts[64];
-
 static PURE int by_library(dstm_thread *me, int does, int map, uint64_t key, uint64_t *low, uint64_t *high) {
     uint64_t had_low, had_high;
     uint32_t told;
@@ -94,10 +94,10 @@ static void *work(void *arg) {
 int main(int n, char **args) {
     uint64_t seed = 2, sum = 0;
     dstm_memory memory = DSTM_ZERO;
-    dstm_thread *first = n == 4 && *args[1] == 't' ? &parts[0] : NULL;
+    dstm_thread *first = n == 4 && !strcmp(args[1], "tl2") ? &parts[0] : NULL;
     pthread_t running[64];
     if (n != 4 || (threads = atoi(args[2])) < 1 || threads > 63) return 2;
-    each = atoi(args[3]), locks = *args[1] == 'm';
+    each = atoi(args[3]), locks = !strcmp(args[1], "mutex");
     if (first && dstm_memory_new(&memory, (uint32_t)threads, DSTM_TL2)) return 3;
     for (int map = 0; first && map < MAPS; map++) if (dstm_map_new(&memory, PLACES, &maps[map])) return 3;
     for (int i = 0; first && i < threads; i++) if (dstm_thread_new(&memory, &parts[i])) return 3;

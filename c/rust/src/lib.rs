@@ -472,7 +472,7 @@ impl Drop for Memory {
 /// A thread's part in a memory. It may go to another thread, and is not shared.
 pub struct Thread<'m> {
     memory: Home<'m>,
-    // The number of the memory.
+    // The number of the memory: each call on a cell asks for it, whoever holds the memory.
     id: u64,
     handle: Handle,
     seed: u64,
@@ -524,7 +524,8 @@ impl<'m> Thread<'m> {
         self.make(true, |tx, times| tx.wait(PATIENCE, times), f)
     }
 
-    /// The same as `atomically`, and it waits for so long in all: then the answer is `Idle`. With `Duration::ZERO` it does not wait.
+    /// The same as `atomically`, and it waits for so long in all: then the answer is `Idle`. With `Duration::ZERO` it
+    /// does not wait.
     #[cfg(feature = "std")]
     pub fn atomically_within<R>(
         &mut self,
